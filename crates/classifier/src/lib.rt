@@ -1,0 +1,1 @@
+// Module 5, after src/verify/classifier.rs and src/classification/mod.rs: count and page. Its definitions are in specs/.

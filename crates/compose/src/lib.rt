@@ -1,0 +1,1 @@
+// Module 2, after src/verify/compose.rs: allowed lists, kept maps, field order, index tuples, forcing. Its definitions are in specs/.

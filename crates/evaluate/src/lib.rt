@@ -1,0 +1,1 @@
+// Module 4, after src/verify/evaluate.rs: the verdict on a row of forced values. Its definitions are in specs/.

@@ -1,0 +1,1 @@
+// Joining two rules files. Its definitions are in specs/.

@@ -1,0 +1,1 @@
+// The text of a verdict, of the end and of a refusal. Its definitions are in specs/.

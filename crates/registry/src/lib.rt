@@ -1,0 +1,1 @@
+// Module 3, after src/verify/registry.rs: the checks and the projections of a row. Its definitions are in specs/.

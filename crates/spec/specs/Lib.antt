@@ -1,0 +1,5 @@
+pub mod Spec
+pub mod Domain
+pub mod Kind
+pub mod Record
+pub mod Refusal
