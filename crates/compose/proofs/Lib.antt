@@ -1,1 +1,6 @@
 pub mod Allowed
+pub mod Parents
+pub mod Ring
+pub mod Order
+pub mod Tuples
+pub mod Emitted

@@ -5,6 +5,7 @@ use mathlib.Core.Path.{_≡_, refl}
 use Prim.Native.Nat.{_+_, _<_, suc, zero, ℕ}
 use native.Mathlib.Nat.{add-suc, add-zero, suc-add, zero-add}
 use native.Mathlib.Omega.{arith}
+use lib.ListN.{getD, length}
 use Rattle.lists.specs.Lists.{all, any, concatMap, consIf, filter, span, upto}
 use Rattle.lists.proofs.Tests.{and-join, and-split, or-split}
 
@@ -34,6 +35,16 @@ module _ {A : Type 0} where
   All-filter p []ᴬ = []ᴬ
   All-filter p (_∷ᴬ_ {x = x} h t) = All-consIf (p x) x h (All-filter p t)
 
+
+  pub All-zip : {P Q S : A → Type 0} {xs : List A} → ((x : A) → P x → Q x → S x) → All P xs → All Q xs → All S xs
+  All-zip f []ᴬ []ᴬ = []ᴬ
+  All-zip f (_∷ᴬ_ {x = x} h t) (k ∷ᴬ u) = f x h k ∷ᴬ All-zip f t u
+
+  -- by positions
+  pub All-at : {P : A → Type 0} (d : A) (xs : List A) → All P xs → (i : ℕ) → i < length xs → P (getD xs i d)
+  All-at d [] h i k = absurd (omega arith)
+  All-at d (x ∷ xs) (h ∷ᴬ t) zero k = h
+  All-at d (x ∷ xs) (h ∷ᴬ t) (suc i) k = All-at d xs t i (omega arith)
 
   pub any-none : (p : A → Bool) {xs : List A} → All (λ x. p x ≡ false) xs → any p xs ≡ false
   any-none p []ᴬ = refl

@@ -1,6 +1,8 @@
 pub mod Tests
 pub mod All
 pub mod Lists
+pub mod Members
+pub mod Pairwise
 pub mod Numbers
 pub mod Pairs
 pub mod Bits

@@ -162,3 +162,7 @@ module _ {A B C : Type 0} where
   pub concatMap-concatMap : (f : A → List B) (g : B → List C) (xs : List A) → concatMap g (concatMap f xs) ≡ concatMap (λ x. concatMap g (f x)) xs
   concatMap-concatMap f g [] = refl
   concatMap-concatMap f g (x ∷ xs) = concatMap-append g (f x) (concatMap f xs) ∙ ap (λ l. concatMap g (f x) ++ l) (concatMap-concatMap f g xs)
+
+  pub map-map : (f : B → C) (g : A → B) (xs : List A) → map f (map g xs) ≡ map (λ x. f (g x)) xs
+  map-map f g [] = refl
+  map-map f g (x ∷ xs) = ap (λ l. f (g x) ∷ l) (map-map f g xs)
