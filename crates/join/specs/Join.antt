@@ -1,17 +1,19 @@
 -- Joining two files: the bytes, the refusals, the output afterwards, and the place of a joined verdict.
-use mathlib.Core.Bool.{Bool, true, false, _&&_, _||_, cond}
+use mathlib.Core.Bool.{Bool, _&&_, _||_, cond, false, true}
+use mathlib.Core.List.{List, [], _++_, _∷_, map}
 use mathlib.Core.Option.{Option, none, some}
-use mathlib.Core.List.{List, [], _∷_, _++_, map}
-use Prim.Native.Nat.{ℕ, suc, _+_}
-use lib.ListN.{length, getD, set, drop, replicate}
+use Prim.Native.Nat.{_+_, suc, ℕ}
 use lib.Dec.{eqb, leb, ltb}
-use lib.IntN.{ℤ}
-use Rattle.lists.specs.Lists.{filter, concatMap}
-use Rattle.spec.specs.Spec.{FieldAssignment, Assign, ConstraintSpec, Check, Eq, Neq, Cross, Enable, ProjectorSpec, Sum, Identity, Parity, Decompose, Spec}
+use lib.IntN.{_+ℤ_, ℤ}
+use lib.ListN.{drop, getD, length, replicate, set}
+use Rattle.lists.specs.Lists.{concatMap, filter}
 use Rattle.spec.specs.Domain.{tooMany}
-use Rattle.spec.specs.Kind.{Use, isOwn, isNames, Kind, rowOf, kindOf, isField, sectionOf}
-use Rattle.spec.specs.Record.{Record, recordOf, partsOf, recordsOf, decoded}
-use Rattle.spec.specs.Refusal.{Refused, refuse, refuseIf, _▷_, Answer, answer, unlessRefused, fileFault}
+use Rattle.spec.specs.Kind.{Kind, Use, isField, isNames, isOwn, kindOf, projector, rowOf, sectionOf}
+use Rattle.spec.specs.Record.{decoded, partsOf, recordOf}
+use Rattle.spec.specs.Refusal.{Answer, Refused, _▷_, answer, fileFault, refuse, refuseIf, unlessRefused}
+use Rattle.spec.specs.Spec.{Assign, Check, ConstraintSpec, Cross, Decompose, Enable, Eq, FieldAssignment, Identity, Neq, Parity, ProjectorSpec, Spec, Sum}
+use Rattle.compose.specs.Tuples.{values}
+use Rattle.evaluate.specs.Verdict.{Verdict}
 
 -- ---- the joined bytes
 -- The number of a field moves up by n; any other number stays.
@@ -130,3 +132,17 @@ among s n = leb 1 s && leb s n
 -- 0 if both are 0; else s if s is 1 to n; else t + n if t is 1 to m; else s + m if s is above n; else t + n + c.
 unfoldable pub joinPlace : (n m c s t : ℕ) → ℕ
 joinPlace n m c s t = cond (eqb s 0 && eqb t 0) 0 (cond (among s n) s (cond (among t m) (t + n) (cond (ltb n s) (s + m) (t + n + c))))
+
+-- ---- the verdict that a verdict of the first file and one of the second come to
+-- Two projections added; none where one is missing.
+abbrev pub addProjections : Option ℤ → Option ℤ → Option ℤ
+addProjections none q = none
+addProjections (some x) none = none
+addProjections (some x) (some y) = some (x +ℤ y)
+
+-- The first's values and then the second's.
+abbrev pub joinVerdict : (n m c : ℕ) → Verdict → Verdict → Verdict
+joinVerdict n m c v w = record { place = joinPlace n m c (v .place) (w .place); projection = addProjections (v .projection) (w .projection); values = v .values ++ w .values }
+
+abbrev pub joinedVerdict : Spec → Spec → Verdict → Verdict → Verdict
+joinedVerdict s t = joinVerdict (length (s .fields)) (length (t .fields)) (length (s .constraints))

@@ -5,5 +5,6 @@ pub mod Members
 pub mod Pairwise
 pub mod Numbers
 pub mod Pairs
+pub mod First
 pub mod Bits
 pub mod Integers
