@@ -4,3 +4,6 @@ pub mod Order
 pub mod Tuples
 pub mod Place
 pub mod Verdicts
+pub mod Moved
+pub mod Decode
+pub mod Bytes
