@@ -98,7 +98,7 @@ no-bits = bin-ind (λ n. ((i : ℕ) → bit n i ≡ 0) → n ≡ 0) (λ h. refl)
 pub or-sum : (a b : ℕ) → ((i : ℕ) → min (bit a i) (bit b i) ≡ 0) → bitOr a b ≡ a + b
 or-sum a b h = or-disjoint a b (no-bits (bitAnd a b) (λ i. bit-and a b i ∙ h i))
 
-bit-zero : (i : ℕ) → bit 0 i ≡ 0
+pub bit-zero : (i : ℕ) → bit 0 i ≡ 0
 bit-zero zero = refl
 bit-zero (suc i) = bit-zero i
 

@@ -1,5 +1,5 @@
 -- Laws of filter, any, all, countIf, concatMap and mapFrom, and of lists cut at a seam.
-use mathlib.Core.Bool.{Bool, _&&_, _||_, false, true}
+use mathlib.Core.Bool.{Bool, _&&_, _||_, false, true, true≢false}
 use mathlib.Core.List.{List, [], _++_, _∷_, append-assoc, map}
 use mathlib.Core.Path.{_∙_, _≡_, ap, ap₂, refl, sym}
 use Prim.Native.Nat.{_+_, _<_, _≤_, suc, zero, ℕ}
@@ -91,6 +91,17 @@ module _ {A : Type 0} where
       go : (b : Bool) → countIf p xs ≤ length xs → sucIf b (countIf p xs) ≤ suc (length xs)
       go true h = omega arith
       go false h = omega arith
+
+  -- of two tests that no element passes both
+  pub countIf-or : (p q : A → Bool) → ((x : A) → p x ≡ true → q x ≡ false) → (xs : List A) → countIf (λ x. p x || q x) xs ≡ countIf p xs + countIf q xs
+  countIf-or p q h [] = refl
+  countIf-or p q h (x ∷ xs) = go (p x) (q x) (h x) (countIf-or p q h xs)
+    where
+      go : (a b : Bool) → (a ≡ true → b ≡ false) → countIf (λ y. p y || q y) xs ≡ countIf p xs + countIf q xs → sucIf (a || b) (countIf (λ y. p y || q y) xs) ≡ sucIf a (countIf p xs) + sucIf b (countIf q xs)
+      go true true h e = absurd (true≢false (h refl))
+      go true false h e = omega arith
+      go false true h e = omega arith
+      go false false h e = e
 
   pub filter-ext : (p q : A → Bool) → ((x : A) → p x ≡ q x) → (xs : List A) → filter p xs ≡ filter q xs
   filter-ext p q h [] = refl

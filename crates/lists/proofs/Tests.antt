@@ -53,6 +53,10 @@ and-split false b e = absurd (false≢true e)
 pub and-join : {a b : Bool} → a ≡ true → b ≡ true → (a && b) ≡ true
 and-join e f = rw (e, f)
 
+pub and-false : (a : Bool) → (a && false) ≡ false
+and-false true = refl
+and-false false = refl
+
 pub or-split : (a b : Bool) → (a || b) ≡ false → (a ≡ false) × (b ≡ false)
 or-split true b e = absurd (true≢false e)
 or-split false b e = (refl, e)
