@@ -7,3 +7,4 @@ pub mod Verdicts
 pub mod Moved
 pub mod Decode
 pub mod Bytes
+pub mod Multiplies

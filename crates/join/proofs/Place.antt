@@ -1,14 +1,15 @@
 -- The place of a joined verdict.
 use mathlib.Core.Bool.{Bool, _&&_, cond, false, false≢true, true}
 use mathlib.Core.List.{List, _++_}
-use mathlib.Core.Path.{_∙_, _≡_, refl, sym}
+use mathlib.Core.Path.{_∙_, _≡_, ap, refl, sym}
 use Prim.Native.Nat.{_+_, _<_, _≤_, suc, zero, ℕ}
 use native.Mathlib.Omega.{arith}
 use lib.Dec.{eqb, eqb·suc-zero, leb, ltb}
 use lib.ListN.{length, length-append}
 use Rattle.lists.specs.Lists.{firstFalse}
 use Rattle.lists.proofs.First.{firstFalse-append, firstFalse-le, orShift, shift}
-use Rattle.lists.proofs.Tests.{leb-no, leb-yes, no-ge, yes-lt}
+use Rattle.lists.proofs.Tests.{leb-no, leb-yes, no-ge, yes-le, yes-lt}
+use Rattle.evaluate.specs.Verdict.{passed}
 use Rattle.join.specs.Join.{among, joinPlace}
 
 among-yes : {s n : ℕ} → 0 < s → s ≤ n → among s n ≡ true
@@ -30,17 +31,17 @@ not-both zero zero h = absurd (omega arith)
 not-both zero (suc t) h = eqb·suc-zero t
 not-both (suc s) t h = rw (eqb·suc-zero s)
 
-second-field : (n m c s t : ℕ) → 0 < t → t ≤ m → among s n ≡ false → joinPlace n m c s t ≡ t + n
+at-second-field : (n m c s t : ℕ) → 0 < t → t ≤ m → among s n ≡ false → joinPlace n m c s t ≡ t + n
 unfolding joinPlace
-second-field n m c s t h k e = rw (not-both s t (omega arith), e, among-yes h k)
+at-second-field n m c s t h k e = rw (not-both s t (omega arith), e, among-yes h k)
 
-first-constraint : (n m c s t : ℕ) → n < s → among t m ≡ false → joinPlace n m c s t ≡ s + m
+at-first-constraint : (n m c s t : ℕ) → n < s → among t m ≡ false → joinPlace n m c s t ≡ s + m
 unfolding joinPlace
-first-constraint n m c s t h e = rw (not-both s t (omega arith), among-above h, e, leb-yes (suc n) s h)
+at-first-constraint n m c s t h e = rw (not-both s t (omega arith), among-above h, e, leb-yes (suc n) s h)
 
-second-constraint : (n m c t : ℕ) → m < t → joinPlace n m c 0 t ≡ t + n + c
+at-second-constraint : (n m c t : ℕ) → m < t → joinPlace n m c 0 t ≡ t + n + c
 unfolding joinPlace
-second-constraint n m c t h = rw (not-both 0 t (omega arith), among-above h, leb-no (suc n) 0 (omega arith))
+at-second-constraint n m c t h = rw (not-both 0 t (omega arith), among-above h, leb-no (suc n) 0 (omega arith))
 
 orShift-pos : (p n q : ℕ) → 0 < p → orShift p n q ≡ p
 orShift-pos zero n q h = absurd (omega arith)
@@ -55,9 +56,9 @@ place-cases : (n m c pa pb px py : ℕ) → pa ≤ n → pb ≤ m
     → orShift (orShift pa n pb) (n + m) (orShift px c py) ≡ joinPlace n m c (orShift pa n px) (orShift pb m py)
 unfolding joinPlace
 place-cases n m c zero zero zero zero h k = refl
-place-cases n m c zero zero zero (suc l) h k = shift-pos (n + m) (c + suc l) (omega arith) ∙ omega arith ∙ sym (second-constraint n m c (m + suc l) (omega arith))
-place-cases n m c zero zero (suc x) py h k = omega arith ∙ sym (first-constraint n m c (n + suc x) (shift m py) (omega arith) (among-shift m py))
-place-cases n m c zero (suc j) px py h k = orShift-pos (n + suc j) (n + m) (orShift px c py) (omega arith) ∙ omega arith ∙ sym (second-field n m c (shift n px) (suc j) (omega arith) k (among-shift n px))
+place-cases n m c zero zero zero (suc l) h k = shift-pos (n + m) (c + suc l) (omega arith) ∙ omega arith ∙ sym (at-second-constraint n m c (m + suc l) (omega arith))
+place-cases n m c zero zero (suc x) py h k = omega arith ∙ sym (at-first-constraint n m c (n + suc x) (shift m py) (omega arith) (among-shift m py))
+place-cases n m c zero (suc j) px py h k = orShift-pos (n + suc j) (n + m) (orShift px c py) (omega arith) ∙ omega arith ∙ sym (at-second-field n m c (shift n px) (suc j) (omega arith) k (among-shift n px))
 place-cases n m c (suc i) pb px py h k = rw (eqb·suc-zero i) (rw (among-yes {s = suc i} {n = n} (omega arith) h) refl)
 
 pub place-join : (a b x y : List Bool)
@@ -80,3 +81,32 @@ joinPlace-pos n m c s t h = rw (not-both s t h) (go (among s n) refl (among t m)
     go false e true e′ z e″ = let k = among-pos t m e′ in omega arith
     go false e false e′ true e″ = let k = yes-lt n s e″ in omega arith
     go false e false e′ false e″ = let k = no-ge n s e″ in omega arith
+
+-- ---- the formula, case by case
+abbrev pub Among : ℕ → ℕ → Type 0
+Among s n = (1 ≤ s) × (s ≤ n)
+
+-- The place p of a joined verdict, from the places s and t of its halves: n fields and c constraints in the first file, m fields in the second.
+pub record PlaceFormula (n m c s t p : ℕ) : Type 0 where
+  pub passed : s ≡ 0 → t ≡ 0 → p ≡ 0
+  pub first-field : Among s n → p ≡ s
+  pub second-field : ¬ Among s n → Among t m → p ≡ t + n
+  pub first-constraint : n < s → ¬ Among t m → p ≡ s + m
+  pub second-constraint : s ≡ 0 → m < t → p ≡ t + n + c
+
+not-among : (s n : ℕ) → ¬ Among s n → among s n ≡ false
+not-among s n h = go (leb 1 s) refl (leb s n) refl
+  where
+    go : (a : Bool) → leb 1 s ≡ a → (b : Bool) → leb s n ≡ b → (a && b) ≡ false
+    go true e true e′ = absurd (h (yes-le 1 s e, yes-le s n e′))
+    go true e false e′ = refl
+    go false e b e′ = refl
+
+pub joinPlace-formula : (n m c s t : ℕ) → PlaceFormula n m c s t (joinPlace n m c s t)
+joinPlace-formula n m c s t = record {
+  passed = λ a b. unfold joinPlace in rw (a, b);
+  first-field = λ a. unfold joinPlace in rw (not-both s t (let h = a .0 in omega arith), among-yes (a .0) (a .1));
+  second-field = λ a b. at-second-field n m c s t (b .0) (b .1) (not-among s n a);
+  first-constraint = λ a b. at-first-constraint n m c s t a (not-among t m b);
+  second-constraint = λ a b. ap (λ (s : ℕ). joinPlace n m c s t) a ∙ at-second-constraint n m c t b;
+}
