@@ -136,16 +136,18 @@ module _ (n : ℕ) where
   constraint-moved field f j x h ms e g = absurd (false≢true e)
   constraint-moved unknown f j x h ms e g = absurd (false≢true e)
   constraint-moved (constraint k) f j x h ms e g =
-      let t = g .0 in
-      (record {
-        known = refl;
-        unstray = stray-move (constraint k) h ∙ t .unstray;
-        ordered = constraint-ordered k (context (n + f) 0 0) (moveBy (constraint k) n h) (omega arith);
-        roomy = refl;
-        named = named-move (constraint k) f h ∙ t .named;
-        scaled = scaled-move (constraint k) h ∙ t .scaled;
-        filled = refl;
-      }, members-move (constraint k) h (ap moves (constraint-row k .0)) (constraint-row k .1) (λ before e. refl) f [] ms (g .1))
+      let t = g .0 in (
+        record {
+          known = refl;
+          unstray = stray-move (constraint k) h ∙ t .unstray;
+          ordered = constraint-ordered k (context (n + f) 0 0) (moveBy (constraint k) n h) (omega arith);
+          roomy = refl;
+          named = named-move (constraint k) f h ∙ t .named;
+          scaled = scaled-move (constraint k) h ∙ t .scaled;
+          filled = refl;
+        },
+        members-move (constraint k) h (ap moves (constraint-row k .0)) (constraint-row k .1) (λ before e. refl) f [] ms (g .1),
+      )
   constraint-moved (projector k) f j x h ms e g = absurd (false≢true e)
   constraint-moved (member k) f j x h ms e g = absurd (false≢true e)
 
@@ -170,18 +172,20 @@ module _ (n : ℕ) where
 
   field-moved : (k : Kind) (f : ℕ) (h : Record) (ms : List Record) → isField k ≡ true → n + f < 32 → GoodBy k (context f 0 0) h ms → GoodBy k (context (n + f) 0 0) (moveBy k n h) (map (moveRecord n) ms)
   field-moved field f h ms e l g =
-      let t = g .0 in
-      (record {
-        known = ap (ltb 2) (field-form (h .b)) ∙ t .known;
-        unstray = stray-move field h ∙ t .unstray;
-        ordered = notDue-move field f h ∙ t .ordered;
-        roomy = leb-no 32 (n + f) l;
-        named = named-move field f h ∙ t .named;
-        scaled = scaled-move field h ∙ t .scaled;
-        filled = ap (λ (b : ℕ). blankBy b (moveBy field n h)) (field-form (h .b)) ∙ blank-move (h .b) h ∙ t .filled;
-      }, subst (λ (i : ℕ). MembersGood field i (moveBy field n h) [] (map (moveRecord n) ms)) (add-suc n f)
-          (members-move field h (field-moves (h .b)) (field-list (h .b))
-          (λ before e. ap₂ (λ (b : ℕ) (c : Bool). cond (eqb b 2 && c) 8 0) (field-form (h .b)) (isEmpty-map before) ∙ e) (suc f) [] ms (g .1)))
+      let t = g .0 in (
+        record {
+          known = ap (ltb 2) (field-form (h .b)) ∙ t .known;
+          unstray = stray-move field h ∙ t .unstray;
+          ordered = notDue-move field f h ∙ t .ordered;
+          roomy = leb-no 32 (n + f) l;
+          named = named-move field f h ∙ t .named;
+          scaled = scaled-move field h ∙ t .scaled;
+          filled = ap (λ (b : ℕ). blankBy b (moveBy field n h)) (field-form (h .b)) ∙ blank-move (h .b) h ∙ t .filled;
+        },
+        subst (λ (i : ℕ). MembersGood field i (moveBy field n h) [] (map (moveRecord n) ms)) (add-suc n f)
+            (members-move field h (field-moves (h .b)) (field-list (h .b))
+            (λ before e. ap₂ (λ (b : ℕ) (c : Bool). cond (eqb b 2 && c) 8 0) (field-form (h .b)) (isEmpty-map before) ∙ e) (suc f) [] ms (g .1)),
+      )
   field-moved unknown f h ms e l g = absurd (false≢true e)
   field-moved (constraint k) f h ms e l g = absurd (false≢true e)
   field-moved (projector k) f h ms e l g = absurd (false≢true e)

@@ -163,7 +163,7 @@ join-multiplies e f g room af ag nf ng jf =
     let d : decoded (joinBytes f g) ≡ joinSpec (decoded f) (decoded g) = join-decoded f g (a .good .whole32) (b .good .whole32) wf wg in
     let named = decoded-named f wf in
     let v : verdicts e (decoded (joinBytes f g)) ≡ pairUp (joinedVerdict (decoded f) (decoded g)) (verdicts e (decoded f)) (verdicts e (decoded g)) =
-        ap (verdicts e) d ∙ verdicts-join e (decoded f) (decoded g) named (a .sound) nf ng (j .sum₁) (j .sum₂) in
+    ap (verdicts e) d ∙ verdicts-join e (decoded f) (decoded g) named (a .sound) nf ng (j .sum₁) (j .sum₂) in
     record {
       accepted = of-accepted e (joinBytes f g) (record {
         good = record {

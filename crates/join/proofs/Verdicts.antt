@@ -23,6 +23,7 @@ use Rattle.compose.specs.Force.{force}
 use Rattle.compose.specs.Tuples.{Engine, emitted, listsOf, values}
 use Rattle.compose.proofs.Emitted.{candidates-length, emitted-candidates, held, length-listsOf, unsound}
 use Rattle.evaluate.specs.Verdict.{Verdict, evaluate, fieldChecks, ifPassed, passed, placeOf}
+use Rattle.evaluate.proofs.Place.{length-fieldChecks}
 use Rattle.classifier.specs.Count.{verdictOf, verdicts}
 use Rattle.join.specs.Join.{addProjections, joinPlace, joinSpec, joinedVerdict, move}
 use Rattle.join.proofs.Place.{joinPlace-pos, place-join}
@@ -55,11 +56,6 @@ ifPassed-join n m c p q x y = go p q (joinPlace-pos n m c p q)
     go zero zero h = refl
     go zero (suc q) h = none-of (joinPlace n m c 0 (suc q)) (h (omega arith)) (some (x +ℤ y))
     go (suc p) q h = none-of (joinPlace n m c (suc p) q) (h (omega arith)) (some (x +ℤ y))
-
-length-fieldChecks : (fs : List FieldSpec) (v : List ℤ) → length (fieldChecks fs v) ≡ length fs
-length-fieldChecks [] v = refl
-length-fieldChecks (f ∷ fs) [] = ap suc (length-fieldChecks fs [])
-length-fieldChecks (f ∷ fs) (x ∷ v) = ap suc (length-fieldChecks fs v)
 
 module _ (s t : Spec) (wf : Named s) where
   module _ (v w : List ℤ) (e : length v ≡ width s) where

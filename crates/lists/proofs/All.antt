@@ -35,7 +35,6 @@ module _ {A : Type 0} where
   All-filter p []ᴬ = []ᴬ
   All-filter p (_∷ᴬ_ {x = x} h t) = All-consIf (p x) x h (All-filter p t)
 
-
   pub All-zip : {P Q S : A → Type 0} {xs : List A} → ((x : A) → P x → Q x → S x) → All P xs → All Q xs → All S xs
   All-zip f []ᴬ []ᴬ = []ᴬ
   All-zip f (_∷ᴬ_ {x = x} h t) (k ∷ᴬ u) = f x h k ∷ᴬ All-zip f t u
@@ -53,6 +52,7 @@ module _ {A : Type 0} where
   pub none-any : (p : A → Bool) (xs : List A) → any p xs ≡ false → All (λ x. p x ≡ false) xs
   none-any p [] h = []ᴬ
   none-any p (x ∷ xs) h = let k = or-split (p x) (any p xs) h in k .0 ∷ᴬ none-any p xs (k .1)
+
   pub all-All : (p : A → Bool) (xs : List A) → all p xs ≡ true → All (λ x. p x ≡ true) xs
   all-All p [] e = []ᴬ
   all-All p (x ∷ xs) e = let k = and-split (p x) (all p xs) e in k .0 ∷ᴬ all-All p xs (k .1)

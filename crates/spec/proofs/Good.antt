@@ -89,9 +89,10 @@ module _ (n : ℕ) (h : Record) (i : ℕ) where
   good-members before (m ∷ ms) j g = rw (g .0, none-firstTrue 2 (memberTests (m .kind) n h before m) (good-member (m .kind) n h before m (g .1))) (good-members (before ++ (m ∷ [])) ms (suc j) (g .2))
 
 group-good : (c : Context) (i : ℕ) (g : Group) → groupFault c i g ≡ none → GroupGood c g
-group-good c i (group h ms) e =
-    (head-good (h .kind) c h (firstTrue-none 1 (headTests (h .kind) c h) (refuse-zero _ i (▷-left _ _ e))),
-    members-good (afterHead (h .kind) c .fields) h i [] ms (suc i) (▷-right (refuse (firstTrue 2 (headTests (h .kind) c h)) i) _ e))
+group-good c i (group h ms) e = (
+  head-good (h .kind) c h (firstTrue-none 1 (headTests (h .kind) c h) (refuse-zero _ i (▷-left _ _ e))),
+  members-good (afterHead (h .kind) c .fields) h i [] ms (suc i) (▷-right (refuse (firstTrue 2 (headTests (h .kind) c h)) i) _ e),
+)
 
 good-group : (c : Context) (i : ℕ) (g : Group) → GroupGood c g → groupFault c i g ≡ none
 good-group c i (group h ms) g = rw (none-firstTrue 2 (headTests (h .kind) c h) (good-head (h .kind) c h (g .0))) (good-members (afterHead (h .kind) c .fields) h i [] ms (suc i) (g .1))
@@ -192,16 +193,18 @@ pub constraint-more : (k : Kind) (f f′ j j′ x x′ : ℕ) (h : Record) (ms :
 constraint-more field f f′ j j′ x x′ h ms e l c d g = absurd (false≢true e)
 constraint-more unknown f f′ j j′ x x′ h ms e l c d g = absurd (false≢true e)
 constraint-more (constraint k) f f′ j j′ x x′ h ms e l c d g =
-    let t = g .0 in
-    (record {
-      known = refl;
-      unstray = t .unstray;
-      ordered = constraint-ordered k (context f′ j′ x′) h d;
-      roomy = leb-no 256 j′ c;
-      named = named-more (constraint k) f f′ h l (t .named);
-      scaled = t .scaled;
-      filled = refl;
-    }, members-more (constraint k) f f′ h [] ms l (g .1))
+    let t = g .0 in (
+      record {
+        known = refl;
+        unstray = t .unstray;
+        ordered = constraint-ordered k (context f′ j′ x′) h d;
+        roomy = leb-no 256 j′ c;
+        named = named-more (constraint k) f f′ h l (t .named);
+        scaled = t .scaled;
+        filled = refl;
+      },
+      members-more (constraint k) f f′ h [] ms l (g .1),
+    )
 constraint-more (projector k) f f′ j j′ x x′ h ms e l c d g = absurd (false≢true e)
 constraint-more (member k) f f′ j j′ x x′ h ms e l c d g = absurd (false≢true e)
 

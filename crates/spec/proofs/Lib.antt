@@ -1,6 +1,7 @@
 pub mod Domain
 pub mod Named
 pub mod Refusals
+pub mod Judged
 pub mod Files
 pub mod Groups
 pub mod Good
