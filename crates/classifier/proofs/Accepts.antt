@@ -1,6 +1,4 @@
 -- What it means that an engine accepts a file.
-
--- 12 and 13 are not given exactly when the specification is sound for the engine.
 use mathlib.Core.Bool.{_||_, false}
 use mathlib.Core.List.{List}
 use mathlib.Core.Option.{none}
@@ -19,6 +17,7 @@ use Rattle.compose.specs.Tuples.{Engine, exhaustive, structural}
 use Rattle.compose.proofs.Emitted.{unsound}
 use Rattle.classifier.specs.Count.{Accepts, countFault, engineFault, scratchFor}
 
+-- 12 and 13 are not given exactly when the specification is sound for the engine.
 sound-of : (e : Engine) (s : Spec) → engineFault e s ≡ none → unsound e s ≡ false
 unfolding engineFault
 sound-of structural s h = ap₂ _||_ (refuseIf-no (ring s) 11 (▷-left _ _ h)) (refuseIf-no (barren s) 12 (▷-right (refuseIf (ring s) 12) _ h))

@@ -1,6 +1,4 @@
 -- The last cross onto a field is its kept map, and exhaustive forces by masks before sets.
-
--- The last cross onto a field is kept, whatever stood before it.
 use mathlib.Core.List.{List, [], _++_, _∷_, foldl-append}
 use mathlib.Core.Option.{none, some}
 use mathlib.Core.Path.{_∙_, _≡_, ap, refl}
@@ -13,6 +11,7 @@ use Rattle.compose.specs.Force.{force, forceBy, forcingOrder}
 use Rattle.compose.specs.Maps.{keepBy, kept, keptMap, replaceIf}
 use Rattle.compose.specs.Tuples.{exhaustive, structural}
 
+-- The last cross onto a field is kept, whatever stood before it.
 pub kept-last : (cs : List ConstraintSpec) (parent f : ℕ) (entries : List Entry) → keptMap (cs ++ (Cross parent f entries ∷ [])) f ≡ some (kept parent entries)
 kept-last cs parent f entries = foldl-append (keepBy f) none cs (Cross parent f entries ∷ []) ∙ ap (λ b. replaceIf b parent entries (keptMap cs f)) (eqb-yes f f refl)
 

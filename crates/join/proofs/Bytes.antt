@@ -1,6 +1,4 @@
 -- The bytes that join writes are the joined groups.
-
--- ---- records
 use mathlib.Core.Bool.{false}
 use mathlib.Core.List.{List, [], _++_, _∷_, map}
 use mathlib.Core.Path.{_∙_, _≡_, ap, ap₂, refl, subst, sym}
@@ -26,6 +24,7 @@ use Rattle.join.specs.Join.{addIf, fieldCount, inSection, joinBytes, joi
 use Rattle.join.proofs.Decode.{spec-joined}
 use Rattle.join.proofs.Moved.{join-good, joinGroups, moveGroup, moveRecord, sumRecord}
 
+-- ---- records
 joinRecords : ℕ → List Record → List Record → List Record
 joinRecords n rs ts = filter (inPart 0) rs ++ (map (moveRecord n) (filter (inPart 0) ts) ++ (filter (inPart 1) rs ++ (map (moveRecord n) (filter (inPart 1) ts) ++ (sumRecord ∷ []))))
 

@@ -1,6 +1,4 @@
 -- The joined groups decode to the joined specification.
-
--- ---- decoding a renumbered group
 use mathlib.Core.Bool.{Bool, false, false≢true, true, true≢false}
 use mathlib.Core.List.{List, [], _++_, _∷_, append-nil, foldl, foldl-append, map}
 use mathlib.Core.Path.{_∙_, _≡_, ap, ap₂, refl, sym}
@@ -18,6 +16,7 @@ use Rattle.spec.proofs.Good.{ConstraintGood, GoodBy, MembersGood, constraintGro
 use Rattle.join.specs.Join.{addIf, joinSpec, move, moveAssignment, moves}
 use Rattle.join.proofs.Moved.{field-form, joinGroups, moveBy, moveGroup, moveRecord, sumRecord}
 
+-- ---- decoding a renumbered group
 module _ (n : ℕ) where
   ps-move : (ms : List Record) → map (λ (m : Record). m .p) (map (moveRecord n) ms) ≡ map (λ (m : Record). m .p) ms
   ps-move [] = refl

@@ -1,6 +1,4 @@
 -- Allowed lists, kept maps and parents of a joined specification.
-
--- ---- allowed lists
 use mathlib.Core.Bool.{Bool, false, true}
 use mathlib.Core.List.{List, [], _++_, _∷_, foldl, foldl-append, map}
 use mathlib.Core.Option.{Option, Option·map, none, some}
@@ -21,6 +19,7 @@ use Rattle.spec.proofs.Named.{NamesBelow}
 use Rattle.compose.specs.Maps.{KeptMap, allowed, allowedLists, keepBy, kept, keptMap, narrowBy, parentIn, parentOf, replaceIf}
 use Rattle.join.specs.Join.{joinSpec, move}
 
+-- ---- allowed lists
 narrowBy-far : (n f : ℕ) (l : List ℤ) (r : ConstraintSpec) → NamesBelow n r → narrowBy (n + f) l r ≡ l
 narrowBy-far n f l (Check g t) h = rw (eqb-apart n g f h)
 narrowBy-far n f l (Eq a b) h = refl

@@ -1,6 +1,4 @@
 -- Demand 3: two whole files under one engine, whichever of the two it is. The join multiplies.
-
--- Verdict i of a list, counting from 1.
 use mathlib.Core.Bool.{Bool, _&&_, cond, false, true, true≢false}
 use mathlib.Core.List.{List, [], _++_}
 use mathlib.Core.Option.{Option, none, some}
@@ -35,6 +33,7 @@ use Rattle.join.proofs.Place.{Among, PlaceFormula, joinPlace-formula}
 use Rattle.join.proofs.Tuples.{unsound-join}
 use Rattle.join.proofs.Verdicts.{passed-join, total-join, verdicts-join}
 
+-- Verdict i of a list, counting from 1.
 abbrev pub nth : List Verdict → ℕ → Verdict
 nth vs i = getD vs (i - 1) (record { place = 0; projection = none; values = [] })
 

@@ -1,6 +1,4 @@
 -- The field order of a joined specification: the first's, then the second's.
-
--- ---- picking from two parts
 use mathlib.Core.Bool.{Bool, _||_, false, not, true}
 use mathlib.Core.List.{List, [], _++_, _∷_, map}
 use mathlib.Core.Option.{Option, Option·map, none, some}
@@ -19,6 +17,7 @@ use Rattle.compose.specs.Maps.{Choice, climb, firstReady, isPlaced, passOver, p
 use Rattle.compose.proofs.Order.{Found, Taken, firstReady-taken, unstuck}
 use Rattle.compose.proofs.Parents.{ParentBelow}
 
+-- ---- picking from two parts
 abbrev extend : List ℕ → Choice → Choice
 extend ys stuck = stuck
 extend ys (took g gs) = took g (gs ++ ys)

@@ -1,6 +1,4 @@
 -- A printed number reads back as itself.
-
--- the number that digits stand for, most significant first
 use mathlib.Core.Bool.{Bool, false, true}
 use mathlib.Core.List.{List, [], _++_, _∷_, foldl, foldl-append}
 use mathlib.Core.Path.{_∙_, _≡_, ap, refl}
@@ -11,6 +9,7 @@ use Rattle.lists.proofs.All.{All, All-append, []ᴬ, _∷ᴬ_}
 use Rattle.lists.proofs.Tests.{no-ge, yes-lt}
 use Rattle.listing.specs.Text.{decimal, digitsOf}
 
+-- the number that digits stand for, most significant first
 abbrev pub readDecimal : List ℕ → ℕ
 readDecimal text = foldl (λ n digit. n * 10 + (digit - 48)) 0 text
 

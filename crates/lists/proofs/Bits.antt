@@ -1,15 +1,14 @@
 -- `andZ` is the AND of two's complement, `lowBit` the number modulo 2.
-
--- bit i, lowest first
 use mathlib.Core.Path.{_∙_, _≡_, ap, ap₂, refl, sym}
 use Prim.Native.Nat.{_%_, _*_, _+_, _-_, _/_, _<_, _^_, _≤_, max, min, suc, zero, ℕ}
-use native.Mathlib.Nat.{div-div-eq-div-mul, div-one, mul-comm, mul-one, pow-suc, pow-zero, suc-add, zero-add}
+use native.Mathlib.Nat.{div-div-eq-div-mul, div-one, min-comm, mul-comm, mul-one, pow-suc, pow-zero, suc-add, zero-add}
 use native.Mathlib.Omega.{arith}
 use lib.Arith.{bin-ind}
-use lib.Bits.{and-comm, and-le-l, and-step, and-zero-r, bitAnd, bitOr, or-disjoint, or-step}
+use lib.Bits.{and-comm, and-le-l, and-step, and-zero-r, bitAnd, bitOr, or-disjoint, or-step, shifted-even, shifted-half}
 use lib.IntN.{natAbs, negsuc, pos, ℤ}
 use Rattle.lists.specs.Integers.{andZ, lowBit}
 
+-- bit i, lowest first
 abbrev pub bit : ℕ → ℕ → ℕ
 bit n zero = n % 2
 bit n (suc i) = bit (n / 2) i
@@ -20,7 +19,7 @@ bitZ (pos a) i = bit a i
 bitZ (negsuc a) i = 1 - bit a i
 
 pub bit-is : (n i : ℕ) → bit n i ≡ n / 2 ^ i % 2
-bit-is n zero = ap (λ (x : ℕ). x % 2) (sym (ap (λ (p : ℕ). n / p) (pow-zero 2) ∙ native.Mathlib.Nat.div-one n))
+bit-is n zero = ap (λ (x : ℕ). x % 2) (sym (ap (λ (p : ℕ). n / p) (pow-zero 2) ∙ div-one n))
 bit-is n (suc i) = bit-is (n / 2) i ∙ ap (λ (x : ℕ). x % 2) (div-div-eq-div-mul n 2 (2 ^ i) ∙ ap (λ (p : ℕ). n / p) (mul-comm 2 (2 ^ i) ∙ sym (pow-suc 2 i)))
 
 pub bit-lt : (n i : ℕ) → bit n i < 2
@@ -55,8 +54,8 @@ bit-less m a (suc i) = ap (λ (x : ℕ). bit x i) (ap (λ (x : ℕ). x / 2) (les
 
 -- bit i of v AND m is bit i of v and bit i of m
 pub andZ-bit : (v : ℤ) (m i : ℕ) → bit (andZ v m) i ≡ min (bitZ v i) (bit m i)
-andZ-bit (pos a) m i = bit-and m a i ∙ native.Mathlib.Nat.min-comm (bit m i) (bit a i)
-andZ-bit (negsuc a) m i = bit-less m a i ∙ native.Mathlib.Nat.min-comm (bit m i) (1 - bit a i)
+andZ-bit (pos a) m i = bit-and m a i ∙ min-comm (bit m i) (bit a i)
+andZ-bit (negsuc a) m i = bit-less m a i ∙ min-comm (bit m i) (1 - bit a i)
 
 -- the same from a word's bits: −1 − a stands as 2^k − 1 − a
 not-step : (k a : ℕ) → a < 2 ^ suc k → 2 ^ suc k - suc a ≡ (2 ^ k - suc (a / 2)) * 2 + (1 - a % 2)
@@ -70,7 +69,7 @@ word-and (suc k) a m h l =
     let hv = halves (2 ^ k - suc (a / 2)) (1 - a % 2) (omega arith) in
     and-step (2 ^ suc k - suc a) m
     ∙ ap₂ (λ (x y : ℕ). bitAnd x (m / 2) * 2 + min y (m % 2)) (ap (λ (x : ℕ). x / 2) n ∙ hv .0) (ap (λ (x : ℕ). x % 2) n ∙ hv .1)
-    ∙ ap₂ (λ (x y : ℕ). x * 2 + y) (word-and k (a / 2) (m / 2) (omega arith) (omega arith)) (native.Mathlib.Nat.min-comm (1 - a % 2) (m % 2))
+    ∙ ap₂ (λ (x y : ℕ). x * 2 + y) (word-and k (a / 2) (m / 2) (omega arith) (omega arith)) (min-comm (1 - a % 2) (m % 2))
     ∙ sym (less-step m a)
 
 -- v as k bits
@@ -110,9 +109,9 @@ bit-high d (suc w) (suc i) h l = let e = pow-suc 2 w in bit-high (d / 2) w i (om
 -- a shifted number has its bits from the shift on
 pub bit-below : (d s i : ℕ) → i < s → bit (d * 2 ^ s) i ≡ 0
 bit-below d zero i h = absurd (omega arith)
-bit-below d (suc s) zero h = lib.Bits.shifted-even d s
-bit-below d (suc s) (suc i) h = ap (λ (x : ℕ). bit x i) (lib.Bits.shifted-half d s) ∙ bit-below d s i (omega arith)
+bit-below d (suc s) zero h = shifted-even d s
+bit-below d (suc s) (suc i) h = ap (λ (x : ℕ). bit x i) (shifted-half d s) ∙ bit-below d s i (omega arith)
 
 pub bit-shifted : (d s i : ℕ) → bit (d * 2 ^ s) (s + i) ≡ bit d i
-bit-shifted d zero i = ap₂ bit (ap (λ (x : ℕ). d * x) (pow-zero 2) ∙ native.Mathlib.Nat.mul-one d) (zero-add i)
-bit-shifted d (suc s) i = ap (bit (d * 2 ^ suc s)) (suc-add s i) ∙ ap (λ (x : ℕ). bit x (s + i)) (lib.Bits.shifted-half d s) ∙ bit-shifted d s i
+bit-shifted d zero i = ap₂ bit (ap (λ (x : ℕ). d * x) (pow-zero 2) ∙ mul-one d) (zero-add i)
+bit-shifted d (suc s) i = ap (bit (d * 2 ^ suc s)) (suc-add s i) ∙ ap (λ (x : ℕ). bit x (s + i)) (shifted-half d s) ∙ bit-shifted d s i

@@ -1,6 +1,4 @@
 -- Laws of firstFalse.
-
--- a place moved on by n; 0, no place, stays
 use mathlib.Core.Bool.{Bool, false, true}
 use mathlib.Core.List.{List, [], _++_, _∷_}
 use mathlib.Core.Path.{_∙_, _≡_, ap, refl, sym}
@@ -11,6 +9,7 @@ use lib.Dec.{eqb, eqb·suc-zero}
 use lib.ListN.{getD, length}
 use Rattle.lists.specs.Lists.{all, firstFalse, further}
 
+-- a place moved on by n; 0, no place, stays
 abbrev pub shift : ℕ → ℕ → ℕ
 shift n zero = zero
 shift n (suc k) = n + suc k

@@ -1,5 +1,4 @@
 -- What stands in a domain.
--- of two numbers whose sum is a multiple, both are or none is
 use mathlib.Core.Bool.{Bool, _&&_, _||_, cond, false, false≢true, true}
 use mathlib.Core.List.{List, [], _∷_}
 use mathlib.Core.Path.{_∙_, _≡_, ap, refl, sym}
@@ -7,18 +6,17 @@ use Prim.Native.Nat.{_%_, _*_, _+_, _-_, _/_, _<_, _≤_, suc, zero, ℕ}
 use native.Mathlib.Nat.{add-mod, add-mul, add-mul-mod-self-right, div-add-mod', div-mul-le-self, le-div-iff-mul-le, le-refl, lt-div-mul-add, lt-of-mul-lt-mul-right, mod-mod, mod-one, mul-mod-left, zero-add}
 use native.Mathlib.Omega.{arith}
 use lib.Dec.{eqb}
-use lib.Ieee.{le}
 use lib.IntN.{_+ℤ_, natAbs, negsuc, pos, ℤ}
 use lib.ListN.{length}
 use lib.Signed.{leZ, ltZ}
 use Rattle.lists.specs.Integers.{elemZ, eqZ}
-use Rattle.lists.specs.Lists.{placeAt}
 use Rattle.lists.proofs.All.{All, All-imp, []ᴬ, _∷ᴬ_}
 use Rattle.lists.proofs.Integers.{Over, elemZ-all, over-of, up, up-add, up-apart, up-eq, up-le, up-lt, up-neg}
 use Rattle.lists.proofs.Tests.{and-join, and-split, bool-ext, eqb-ext, eqb-yes, leb-yes, ltb-yes, yes-eq, yes-le}
 use Rattle.spec.specs.Domain.{allows, domain, firstMultiple, howMany, multiples, onStep, progression, stepOf}
 use Rattle.spec.specs.Spec.{FieldSpec, Free, Listed, Ranged}
 
+-- of two numbers whose sum is a multiple, both are or none is
 part-mod : (k x y n : ℕ) → x + y ≡ n → n % k ≡ 0 → x % k ≡ 0 → y % k ≡ 0
 part-mod k x y n e h g = sym (mod-mod y k) ∙ ap (λ (z : ℕ). z % k) (sym (ap (λ (z : ℕ). z + y % k) g ∙ zero-add (y % k))) ∙ sym (add-mod x y k) ∙ ap (λ (z : ℕ). z % k) e ∙ h
 
@@ -138,7 +136,7 @@ module _ (k : ℕ) (p q v : ℤ) where
       let aw = whole (up n a) (suc k) (F .multiple) in
       let nr = F .near in
       let less : up n a / suc k < suc (up n v / suc k) = lt-of-mul-lt-mul-right (suc k) (let g : up n a / suc k * suc k < suc (up n v / suc k) * suc k = omega arith in g) in
-      let placeAt : up n v / suc k * suc k ≡ up n a / suc k * suc k + (up n v / suc k - up n a / suc k) * suc k = split (up n a / suc k) (up n v / suc k) (omega arith) in
+      let stride : up n v / suc k * suc k ≡ up n a / suc k * suc k + (up n v / suc k - up n a / suc k) * suc k = split (up n a / suc k) (up n v / suc k) (omega arith) in
       let y = le-div-iff-mul-le {k = suc k} {x = up n v / suc k - up n a / suc k} {y = up n q - up n a} (omega arith) .1 (omega arith) in
       let mn = many true (up-le n a q (F .over) oq ∙ leb-yes (up n a) (up n q) (omega arith)) in
       has-rise n (suc k) v a (howMany (suc k) a q) (up n v / suc k - up n a / suc k) ov (F .over) (omega arith) (omega arith)

@@ -1,6 +1,4 @@
 -- A file whose records have no fault, as facts about its groups.
-
--- What the tests 2 to 8 of a head say when none is true.
 use mathlib.Core.Bool.{Bool, _&&_, _||_, cond, false, false≢true, true, true≢false}
 use mathlib.Core.List.{List, [], _++_, _∷_}
 use mathlib.Core.Option.{Option, none}
@@ -20,6 +18,7 @@ use Rattle.spec.specs.Refusal.{Context, Refused, after, afterHead, badPa
 use Rattle.spec.proofs.Groups.{Proper, flat, records-flat}
 use Rattle.spec.proofs.Refusals.{AllFalse, firstTrue-none, misfiled-refused, none-firstTrue, refuse-zero, ▷-left, ▷-none, ▷-right}
 
+-- What the tests 2 to 8 of a head say when none is true.
 pub record HeadGood (k : Kind) (c : Context) (h : Record) : Type 0 where
   pub known : unknownKind k h ≡ false
   pub unstray : strayByte k h ≡ false

@@ -1,6 +1,4 @@
 -- The number of a record's refusal is the lowest that applies to it.
-
--- The number that a head is refused with, 0 for none.
 use mathlib.Core.Bool.{false, true}
 use mathlib.Core.List.{List, [], _++_, _∷_}
 use mathlib.Core.Option.{some}
@@ -10,6 +8,7 @@ use Rattle.spec.specs.Kind.{Kind}
 use Rattle.spec.specs.Record.{Group, Record}
 use Rattle.spec.specs.Refusal.{Context, Refused, _▷_, after, badPacking, belongs, blankField, firstTrue, groupFault, groupsFault, headTests, listFault, memberFault, memberTests, membersFault, misfiled, noSuchField, notDue, offScale, outOfOrder, overfull, refuse, sizeOf, strayByte, unknownKind}
 
+-- The number that a head is refused with, 0 for none.
 pub record HeadNumber (k : Kind) (c : Context) (h : Record) (n : ℕ) : Type 0 where
   pub two : unknownKind k h ≡ true → n ≡ 2
   pub three : unknownKind k h ≡ false → strayByte k h ≡ true → n ≡ 3

@@ -1,6 +1,4 @@
 -- The members of a good group stand in their head's section, so a section's records are the groups of its sort.
-
--- the list of a row, where there is one, is in the section of its kind
 use mathlib.Core.Bool.{Bool, _&&_, _||_, false, false≢true, true, true≢false}
 use mathlib.Core.List.{List, [], _++_, _∷_}
 use mathlib.Core.Path.{_∙_, _≡_, ap, refl, sym}
@@ -17,6 +15,7 @@ use Rattle.spec.specs.Refusal.{Context, after, context}
 use Rattle.spec.proofs.Good.{Good, MembersGood, Whole, constraintGroups, fieldGroups, headIs, whole-flat}
 use Rattle.spec.proofs.Groups.{Proper, flat, groups-proper}
 
+-- the list of a row, where there is one, is in the section of its kind
 pub row-section : (k : Kind) (b : ℕ) → (eqb (rowOf k b .list) 0 || eqb (partOf (rowOf k b .list)) (sectionOf k)) ≡ true
 row-section field zero = refl
 row-section field (suc zero) = refl
