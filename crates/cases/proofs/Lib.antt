@@ -1,0 +1,4 @@
+pub mod Build
+pub mod Starred
+pub mod Bench
+pub mod Traps
