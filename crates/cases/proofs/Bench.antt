@@ -13,7 +13,7 @@ use Rattle.classifier.specs.Count.{verdicts, Counts, countFault, countAnswer, s
 use Rattle.classifier.specs.Page.{Page, Start, beginning, afterTuple, pageAnswer, pageOutput}
 use Rattle.join.specs.Join.{joined, joinBytes, joinFault, joinOutput}
 use Rattle.listing.specs.Text.{listing}
-use Rattle.cases.proofs.Build.{minus, file, lines, ranged, listed, value, even, lt, cross, pair, enableMask, disable, sum, bit, loneSum, slip, passes, fails, judging, evaluating, counting, printing, paging, joining}
+use Rattle.cases.proofs.Build.{minus, file, lines, ranged, listed, value, even, lt, cross, pair, enableMask, disable, sum, bit, loneSum, refusal, passes, fails, judging, evaluating, counting, printing, paging, joining}
 use Rattle.cases.proofs.Starred.{ringed}
 
 -- Field 0 listed 0, 1, 2; field 1 range 0..2; cross 0→1 with pair 1, 2; enable_mask 0 is 2 disabling 1; lt 1 below 2; sum.
@@ -32,7 +32,7 @@ unfolding judging
 accepted-lent-6 structural = refl
 accepted-lent-6 exhaustive = refl
 
-refused-lent-5 : (engine : Engine) → countFault engine 5 bench ≡ slip 11 0
+refused-lent-5 : (engine : Engine) → countFault engine 5 bench ≡ refusal 11 0
 unfolding judging
 refused-lent-5 structural = refl
 refused-lent-5 exhaustive = refl

@@ -12,7 +12,7 @@ use Rattle.spec.specs.Record.{recordOf, partsOf, recordsOf, specOf, decoded}
 use Rattle.spec.specs.Refusal.{Refused, recordsFault, fileFault}
 use Rattle.compose.specs.Force.{forcingOrder, force}
 use Rattle.compose.specs.Maps.{allowedLists, ring, fieldOrder, barren}
-use Rattle.compose.specs.Tuples.{mapsHold, listsOf, emitted}
+use Rattle.compose.specs.Tuples.{listsOf, orderOf, mapOf, mapsHold, emitted}
 use Rattle.evaluate.specs.Verdict.{Verdict}
 use Rattle.classifier.specs.Count.{verdictOf, verdicts, passedCount, countsOf, scratchFor, engineFault, countFault, countAnswer}
 use Rattle.classifier.specs.Page.{due, pageFault, pageOf, pageAnswer, pageWords, pageOutput}
@@ -152,8 +152,8 @@ loneSum = file (sum ∷ [])
 
 -- ---- refusals and verdicts
 -- Refused: number, record.
-abbrev pub slip : (number at : ℕ) → Option Refused
-slip number at = some (record { number = number; at = at })
+abbrev pub refusal : (number at : ℕ) → Option Refused
+refusal number at = some (record { number = number; at = at })
 
 -- A verdict that is printed P.
 abbrev pub passes : (projection : Option ℤ) (values : List ℤ) → Verdict
@@ -174,7 +174,7 @@ unfolding decoding fileFault recordsFault tooMany total countFault scratchFor do
 judging = tt
 
 unfoldable pub emitting : Unit {0}
-unfolding decoding emitted listsOf domains allowedLists fieldOrder mapsHold
+unfolding decoding emitted listsOf orderOf mapOf domains allowedLists fieldOrder mapsHold
 emitting = tt
 
 unfoldable pub evaluating : Unit {0}

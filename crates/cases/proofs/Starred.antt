@@ -12,7 +12,7 @@ use Rattle.spec.specs.Refusal.{fileFault}
 use Rattle.compose.specs.Maps.{allowedLists, fieldOrder}
 use Rattle.compose.specs.Tuples.{Engine, structural, exhaustive, emitted}
 use Rattle.classifier.specs.Count.{verdicts, countFault}
-use Rattle.cases.proofs.Build.{minus, file, noRange, ranged, stepped, listed, value, oneof, item, cross, pair, key, enableMask, disable, enableSet, assign, sum, parity, decompose, axis, only, bit, slip, passes, fails, decoding, judging, emitting, evaluating}
+use Rattle.cases.proofs.Build.{minus, file, noRange, ranged, stepped, listed, value, oneof, item, cross, pair, key, enableMask, disable, enableSet, assign, sum, parity, decompose, axis, only, bit, refusal, passes, fails, decoding, judging, emitting, evaluating}
 
 -- ---- domains
 -- −7..7 step 4: −4, 0, 4.
@@ -24,7 +24,7 @@ unfolding decoding domains
 step-4-from-minus-7 = refl
 
 -- −7..−5 step 4: 8.
-step-4-in-minus-7-to-minus-5-is-8 : fileFault (file (stepped 0 (minus 7) (minus 5) (pos 4) ∷ sum ∷ [])) ≡ slip 8 1
+step-4-in-minus-7-to-minus-5-is-8 : fileFault (file (stepped 0 (minus 7) (minus 5) (pos 4) ∷ sum ∷ [])) ≡ refusal 8 1
 unfolding judging
 step-4-in-minus-7-to-minus-5-is-8 = refl
 
@@ -90,7 +90,7 @@ map-2-to-0-emits-in-that-order = refl
 abbrev pub ringed : List ℕ
 ringed = file (bit 0 ∷ bit 1 ∷ cross 0 1 ∷ pair (pos 1) (pos 1) ∷ cross 1 0 ∷ pair (pos 1) (pos 1) ∷ sum ∷ [])
 
-two-maps-in-a-ring-are-12 : countFault structural 4 ringed ≡ slip 12 0
+two-maps-in-a-ring-are-12 : countFault structural 4 ringed ≡ refusal 12 0
 unfolding judging
 two-maps-in-a-ring-are-12 = refl
 
@@ -99,7 +99,7 @@ unfolding judging
 exhaustive-accepts-the-ring = refl
 
 -- Key 1 without pair, 1 allowed: 13.
-key-1-without-pair-is-13 : countFault structural 4 (file (bit 0 ∷ bit 1 ∷ cross 0 1 ∷ key (pos 1) ∷ sum ∷ [])) ≡ slip 13 0
+key-1-without-pair-is-13 : countFault structural 4 (file (bit 0 ∷ bit 1 ∷ cross 0 1 ∷ key (pos 1) ∷ sum ∷ [])) ≡ refusal 13 0
 unfolding judging
 key-1-without-pair-is-13 = refl
 
@@ -155,7 +155,7 @@ unfolding judging
 thousand-cubed-is-accepted structural = refl
 thousand-cubed-is-accepted exhaustive = refl
 
-one-more-is-10 : (engine : Engine) → countFault engine 3001 (lengths (pos 1001)) ≡ slip 10 0
+one-more-is-10 : (engine : Engine) → countFault engine 3001 (lengths (pos 1001)) ≡ refusal 10 0
 unfolding judging
 one-more-is-10 structural = refl
 one-more-is-10 exhaustive = refl

@@ -14,7 +14,7 @@ use Rattle.classifier.specs.Count.{verdicts, countFault, countAnswer}
 use Rattle.classifier.specs.Page.{beginning, afterTuple, pageFault, pageAnswer}
 use Rattle.join.specs.Join.{Which, first, second, JoinRefused, joinFault}
 use Rattle.listing.specs.Text.{listing}
-use Rattle.cases.proofs.Build.{minus, rec, file, lines, ranged, listed, value, range, even, eq, neq, lt, gt, le, ge, oneof, item, cross, pair, key, enableMask, disable, bitmask, enableSet, assign, sum, identity, parity, decompose, axis, only, bit, loneSum, slip, passes, fails, judging, emitting, evaluating, counting, printing, paging, joining}
+use Rattle.cases.proofs.Build.{minus, rec, file, lines, ranged, listed, value, range, even, eq, neq, lt, gt, le, ge, oneof, item, cross, pair, key, enableMask, disable, bitmask, enableSet, assign, sum, identity, parity, decompose, axis, only, bit, loneSum, refusal, passes, fails, judging, emitting, evaluating, counting, printing, paging, joining}
 use Rattle.cases.proofs.Starred.{ringed}
 
 -- ---- lists and maps
@@ -54,7 +54,7 @@ a-key-that-is-not-allowed-is-accepted = refl
 
 -- Pair 1, 1, and 1 is not in the child's allowed list.
 a-child-value-that-is-not-allowed-is-13 :
-    countFault structural 4 (file (bit 0 ∷ bit 1 ∷ oneof 1 ∷ item (pos 0) ∷ cross 0 1 ∷ pair (pos 1) (pos 1) ∷ sum ∷ [])) ≡ slip 13 0
+    countFault structural 4 (file (bit 0 ∷ bit 1 ∷ oneof 1 ∷ item (pos 0) ∷ cross 0 1 ∷ pair (pos 1) (pos 1) ∷ sum ∷ [])) ≡ refusal 13 0
 unfolding judging
 a-child-value-that-is-not-allowed-is-13 = refl
 
@@ -169,83 +169,83 @@ unfolding paging
 a-lone-sum-has-an-empty-page structural = refl
 a-lone-sum-has-an-empty-page exhaustive = refl
 
-any-start-in-a-lone-sum-is-15 : (engine : Engine) (start : List ℕ) → pageFault engine 0 0 loneSum (afterTuple start) ≡ slip 15 0
+any-start-in-a-lone-sum-is-15 : (engine : Engine) (start : List ℕ) → pageFault engine 0 0 loneSum (afterTuple start) ≡ refusal 15 0
 unfolding paging
 any-start-in-a-lone-sum-is-15 structural start = refl
 any-start-in-a-lone-sum-is-15 exhaustive start = refl
 
 -- ---- the order of judging
-a-ragged-file-is-1 : fileFault (loneSum ++ (0 ∷ [])) ≡ slip 1 0
+a-ragged-file-is-1 : fileFault (loneSum ++ (0 ∷ [])) ≡ refusal 1 0
 unfolding judging
 a-ragged-file-is-1 = refl
 
 -- 65,568 bytes that are 0: the length is judged before the kinds.
-a-file-above-65536-bytes-is-1 : fileFault (replicate 65568 0) ≡ slip 1 0
+a-file-above-65536-bytes-is-1 : fileFault (replicate 65568 0) ≡ refusal 1 0
 unfolding judging
 a-file-above-65536-bytes-is-1 = refl
 
-the-empty-file-is-4-at-1 : fileFault [] ≡ slip 4 1
+the-empty-file-is-4-at-1 : fileFault [] ≡ refusal 4 1
 unfolding judging
 the-empty-file-is-4-at-1 = refl
 
-a-record-after-the-projector-is-4 : fileFault (file (bit 0 ∷ sum ∷ sum ∷ [])) ≡ slip 4 3
+a-record-after-the-projector-is-4 : fileFault (file (bit 0 ∷ sum ∷ sum ∷ [])) ≡ refusal 4 3
 unfolding judging
 a-record-after-the-projector-is-4 = refl
 
 -- The lowest number in a record: kind 9 with a stray p.
-an-unknown-kind-comes-before-a-stray-mark : fileFault (file (rec 9 0 0 (pos 1) (pos 0) (pos 0) ∷ sum ∷ [])) ≡ slip 2 1
+an-unknown-kind-comes-before-a-stray-mark : fileFault (file (rec 9 0 0 (pos 1) (pos 0) (pos 0) ∷ sum ∷ [])) ≡ refusal 2 1
 unfolding judging
 an-unknown-kind-comes-before-a-stray-mark = refl
 
 -- A form 2 field whose only value names another field: not (8, 1).
-a-value-of-another-field-is-4 : fileFault (file (listed 0 ∷ value 1 (pos 5) ∷ sum ∷ [])) ≡ slip 4 2
+a-value-of-another-field-is-4 : fileFault (file (listed 0 ∷ value 1 (pos 5) ∷ sum ∷ [])) ≡ refusal 4 2
 unfolding judging
 a-value-of-another-field-is-4 = refl
 
 -- A decompose at 2 whose only axis has a stray q: not (9, 2).
-an-axis-with-a-stray-mark-is-3 : fileFault (file (bit 0 ∷ decompose 0 (pos 0) (minus 1) ∷ rec 8 1 0 (pos 0) (pos 1) (pos 0) ∷ [])) ≡ slip 3 3
+an-axis-with-a-stray-mark-is-3 : fileFault (file (bit 0 ∷ decompose 0 (pos 0) (minus 1) ∷ rec 8 1 0 (pos 0) (pos 1) (pos 0) ∷ [])) ≡ refusal 3 3
 unfolding judging
 an-axis-with-a-stray-mark-is-3 = refl
 
 -- A form 2 field without values is judged where its list ends: before an unknown kind, and before a member of another list.
-no-values-come-before-an-unknown-kind : fileFault (file (listed 0 ∷ rec 9 0 0 (pos 0) (pos 0) (pos 0) ∷ sum ∷ [])) ≡ slip 8 1
+no-values-come-before-an-unknown-kind : fileFault (file (listed 0 ∷ rec 9 0 0 (pos 0) (pos 0) (pos 0) ∷ sum ∷ [])) ≡ refusal 8 1
 unfolding judging
 no-values-come-before-an-unknown-kind = refl
 
-no-values-come-before-a-misfiled-item : fileFault (file (listed 0 ∷ item (pos 5) ∷ sum ∷ [])) ≡ slip 8 1
+no-values-come-before-a-misfiled-item : fileFault (file (listed 0 ∷ item (pos 5) ∷ sum ∷ [])) ≡ refusal 8 1
 unfolding judging
 no-values-come-before-a-misfiled-item = refl
 
 -- An offset of 64 is judged after the axes, and names the head.
-an-offset-of-64-is-9-at-the-head : fileFault (file (bit 0 ∷ decompose 0 (pos 0) (pos 64) ∷ axis 1 0 (pos 0) ∷ [])) ≡ slip 9 2
+an-offset-of-64-is-9-at-the-head : fileFault (file (bit 0 ∷ decompose 0 (pos 0) (pos 64) ∷ axis 1 0 (pos 0) ∷ [])) ≡ refusal 9 2
 unfolding judging
 an-offset-of-64-is-9-at-the-head = refl
 
-a-bad-axis-comes-before-the-offset : fileFault (file (bit 0 ∷ decompose 0 (pos 0) (pos 64) ∷ axis 0 0 (pos 0) ∷ [])) ≡ slip 9 3
+a-bad-axis-comes-before-the-offset : fileFault (file (bit 0 ∷ decompose 0 (pos 0) (pos 64) ∷ axis 0 0 (pos 0) ∷ [])) ≡ refusal 9 3
 unfolding judging
 a-bad-axis-comes-before-the-offset = refl
 
 -- Before 10: the total is 2^33.
-the-33rd-field-is-5 : fileFault (file (map bit (upto 33) ++ (sum ∷ []))) ≡ slip 5 33
+the-33rd-field-is-5 : fileFault (file (map bit (upto 33) ++ (sum ∷ []))) ≡ refusal 5 33
 unfolding judging
 the-33rd-field-is-5 = refl
 
-the-257th-constraint-is-5 : fileFault (file (bit 0 ∷ (replicate 257 (even 0) ++ (sum ∷ [])))) ≡ slip 5 258
+the-257th-constraint-is-5 : fileFault (file (bit 0 ∷ (replicate 257 (even 0) ++ (sum ∷ [])))) ≡ refusal 5 258
 unfolding judging
 the-257th-constraint-is-5 = refl
 
 -- 11 goes by the domains, before any filter.
-a-filter-saves-no-scratch : countFault structural 1 (file (bit 0 ∷ oneof 0 ∷ item (pos 0) ∷ sum ∷ [])) ≡ slip 11 0
+a-filter-saves-no-scratch : countFault structural 1 (file (bit 0 ∷ oneof 0 ∷ item (pos 0) ∷ sum ∷ [])) ≡ refusal 11 0
 unfolding judging
 a-filter-saves-no-scratch = refl
 
-scratch-comes-before-the-ring : countFault structural 3 ringed ≡ slip 11 0
+scratch-comes-before-the-ring : countFault structural 3 ringed ≡ refusal 11 0
 unfolding judging
 scratch-comes-before-the-ring = refl
 
 -- Maps 0→1 and 1→0, in both of which 1 is a key without pair.
 the-ring-comes-before-the-barren-key :
-    countFault structural 4 (file (bit 0 ∷ bit 1 ∷ cross 0 1 ∷ key (pos 1) ∷ cross 1 0 ∷ key (pos 1) ∷ sum ∷ [])) ≡ slip 12 0
+    countFault structural 4 (file (bit 0 ∷ bit 1 ∷ cross 0 1 ∷ key (pos 1) ∷ cross 1 0 ∷ key (pos 1) ∷ sum ∷ [])) ≡ refusal 12 0
 unfolding judging
 the-ring-comes-before-the-barren-key = refl
 
