@@ -250,18 +250,18 @@ unfolding judging
 the-ring-comes-before-the-barren-key = refl
 
 -- ---- joining
-abbrev joinSlip : Which → (number at : ℕ) → Option JoinRefused
-joinSlip which number at = some (record { which = which; why = record { number = number; at = at } })
+abbrev joinRefusal : Which → (number at : ℕ) → Option JoinRefused
+joinRefusal which number at = some (record { which = which; why = record { number = number; at = at } })
 
-sixteen-names-the-projector : joinFault 4096 (file (bit 0 ∷ even 0 ∷ identity 0 ∷ [])) (file (bit 0 ∷ sum ∷ [])) ≡ joinSlip first 16 3
+sixteen-names-the-projector : joinFault 4096 (file (bit 0 ∷ even 0 ∷ identity 0 ∷ [])) (file (bit 0 ∷ sum ∷ [])) ≡ joinRefusal first 16 3
 unfolding joining
 sixteen-names-the-projector = refl
 
-sixteen-of-the-second : joinFault 4096 (file (bit 0 ∷ even 0 ∷ sum ∷ [])) (file (bit 0 ∷ parity 0 ∷ [])) ≡ joinSlip second 16 2
+sixteen-of-the-second : joinFault 4096 (file (bit 0 ∷ even 0 ∷ sum ∷ [])) (file (bit 0 ∷ parity 0 ∷ [])) ≡ joinRefusal second 16 2
 unfolding joining
 sixteen-of-the-second = refl
 
 -- The second file has no projector.
-the-second-file-comes-before-sixteen : joinFault 4096 (file (bit 0 ∷ identity 0 ∷ [])) (file (bit 0 ∷ even 0 ∷ [])) ≡ joinSlip second 4 3
+the-second-file-comes-before-sixteen : joinFault 4096 (file (bit 0 ∷ identity 0 ∷ [])) (file (bit 0 ∷ even 0 ∷ [])) ≡ joinRefusal second 4 3
 unfolding joining
 the-second-file-comes-before-sixteen = refl

@@ -1,13 +1,13 @@
 -- The last cross onto a field is its kept map, and exhaustive forces by masks before sets.
-use mathlib.Core.List.{List, [], _++_, _∷_, foldl-append}
+use mathlib.Core.List.{List, [], _++_, _∷_, foldl, foldl-append}
 use mathlib.Core.Option.{none, some}
 use mathlib.Core.Path.{_∙_, _≡_, ap, refl}
 use Prim.Native.Nat.{ℕ}
 use lib.IntN.{ℤ}
-use lib.Seq.{sets}
+use Rattle.lists.specs.Lists.{filter}
 use Rattle.lists.proofs.Tests.{eqb-no, eqb-yes}
-use Rattle.spec.specs.Spec.{ConstraintSpec, Cross, Enable, Entry, FieldAssignment, byMask, bySet}
-use Rattle.compose.specs.Force.{force, forceBy, forcingOrder}
+use Rattle.spec.specs.Spec.{ConstraintSpec, Cross, Entry, byMask, bySet}
+use Rattle.compose.specs.Force.{enables, force, forceBy, forcingOrder}
 use Rattle.compose.specs.Maps.{keepBy, kept, keptMap, replaceIf}
 use Rattle.compose.specs.Tuples.{exhaustive, structural}
 
@@ -24,8 +24,7 @@ pub force-structural : (cs : List ConstraintSpec) (c : ConstraintSpec) (row : Li
 unfolding force forcingOrder
 force-structural cs c row = foldl-append forceBy row cs (c ∷ [])
 
--- Exhaustive takes an enable_mask before an enable_set, whichever stands first in the file.
-pub force-exhaustive : (a b : ℕ) (p q : ℤ) (sets masks : List FieldAssignment) (row : List ℤ)
-    → force exhaustive (Enable bySet a p sets ∷ Enable byMask b q masks ∷ []) row ≡ forceBy (forceBy row (Enable byMask b q masks)) (Enable bySet a p sets)
+-- Exhaustive takes all enable_mask in file order, then all enable_set in file order.
+pub force-exhaustive : (cs : List ConstraintSpec) (row : List ℤ) → force exhaustive cs row ≡ foldl forceBy (foldl forceBy row (filter (enables byMask) cs)) (filter (enables bySet) cs)
 unfolding force forcingOrder
-force-exhaustive a b p q sets masks row = refl
+force-exhaustive cs row = foldl-append forceBy row (filter (enables byMask) cs) (filter (enables bySet) cs)

@@ -46,7 +46,7 @@ member-number k n h before m = record {
   nine = λ a b c d e. rw (a, b, c, d, e);
 }
 
--- A fault of a whole list is judged before a member that the list does not take, and after those that it takes.
+-- A fault of a whole list is judged before a member that the list does not take.
 pub list-before-stray : (n : ℕ) (h : Record) (i : ℕ) (before : List Record) (m : Record) (ms : List Record) (j : ℕ) → belongs h m ≡ false → ¬ (listFault (h .kind) h before ≡ 0)
     → membersFault n h i before (m ∷ ms) j ≡ refuse (listFault (h .kind) h before) i
 list-before-stray n h i before m ms j e f = ap (λ b. memberFault n h i b before m j (membersFault n h i (before ++ (m ∷ [])) ms (suc j))) e ∙ go (listFault (h .kind) h before) f
