@@ -10,10 +10,10 @@ use Rattle.spec.specs.Record.{decoded}
 use Rattle.spec.specs.Refusal.{refused, accepted}
 use Rattle.compose.specs.Tuples.{Engine, structural, exhaustive}
 use Rattle.classifier.specs.Count.{verdicts, Counts, countFault, countAnswer, scratchAfter}
-use Rattle.classifier.specs.Page.{Page, Start, beginning, afterTuple, pageAnswer, pageOutput}
+use Rattle.classifier.specs.Page.{Page, Start, beginning, afterTuple, pageFault, pageAnswer, pageOutput}
 use Rattle.join.specs.Join.{joined, joinBytes, joinFault, joinOutput}
 use Rattle.listing.specs.Text.{listing}
-use Rattle.cases.proofs.Build.{minus, file, lines, ranged, listed, value, even, lt, cross, pair, enableMask, disable, sum, bit, loneSum, refusal, passes, fails, judging, evaluating, counting, printing, paging, joining}
+use Rattle.cases.proofs.Build.{minus, file, lines, ranged, listed, value, even, lt, cross, pair, key, enableMask, disable, sum, bit, loneSum, refusal, passes, fails, judging, evaluating, counting, printing, paging, joining}
 use Rattle.cases.proofs.Starred.{ringed}
 
 -- Field 0 listed 0, 1, 2; field 1 range 0..2; cross 0→1 with pair 1, 2; enable_mask 0 is 2 disabling 1; lt 1 below 2; sum.
@@ -173,6 +173,11 @@ refused-page-leaves-the-output = refl
 abbrev lent : ℕ → List ℤ
 lent n = replicate n (pos 7)
 
+-- There is no projector.
+scratch-after-4 : scratchAfter (countFault structural 6 (file (bit 0 ∷ []))) (lent 6) ≡ lent 6
+unfolding judging
+scratch-after-4 = refl
+
 scratch-after-11 : scratchAfter (countFault structural 5 bench) (lent 5) ≡ lent 5
 unfolding judging
 scratch-after-11 = refl
@@ -180,6 +185,21 @@ scratch-after-11 = refl
 scratch-after-12 : scratchAfter (countFault structural 6 ringed) (lent 6) ≡ replicate 6 (pos 0)
 unfolding judging
 scratch-after-12 = refl
+
+-- Key 1 without pair, 1 allowed.
+scratch-after-13 : scratchAfter (countFault structural 6 (file (bit 0 ∷ bit 1 ∷ cross 0 1 ∷ key (pos 1) ∷ sum ∷ []))) (lent 6) ≡ replicate 6 (pos 0)
+unfolding judging
+scratch-after-13 = refl
+
+-- The output is one word short.
+scratch-after-14 : scratchAfter (pageFault structural 6 5 bench beginning) (lent 6) ≡ replicate 6 (pos 0)
+unfolding paging
+scratch-after-14 = refl
+
+-- 1 0 is no emitted tuple.
+scratch-after-15 : scratchAfter (pageFault structural 6 6 bench (afterTuple (tuple 1 0))) (lent 6) ≡ replicate 6 (pos 0)
+unfolding paging
+scratch-after-15 = refl
 
 scratch-after-acceptance : scratchAfter (countFault structural 9 bench) (lent 9) ≡ replicate 9 (pos 0)
 unfolding judging

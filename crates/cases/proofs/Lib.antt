@@ -2,4 +2,7 @@ pub mod Build
 pub mod Starred
 pub mod Bench
 pub mod Traps
+pub mod Values
+pub mod Judging
+pub mod Joining
 pub mod Joined
