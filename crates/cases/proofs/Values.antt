@@ -8,7 +8,10 @@ use lib.ListN.{replicate}
 use Rattle.lists.specs.Lists.{upto}
 use Rattle.spec.specs.Domain.{domains}
 use Rattle.spec.specs.Record.{decoded}
+use Rattle.spec.specs.Refusal.{fileFault}
 use Rattle.spec.specs.Spec.{Identity, Decompose, Axis}
+use Rattle.spec.proofs.Accepted.{file-good}
+use Rattle.registry.proofs.Valid.{PackingValid, packing-valid}
 use Rattle.compose.specs.Maps.{allowedLists, listAt}
 use Rattle.compose.specs.Tuples.{Engine, structural, exhaustive}
 use Rattle.classifier.specs.Count.{verdicts, countFault}
@@ -98,6 +101,14 @@ from60 = file (listed 0 ∷ value 0 (pos 7) ∷ value 0 (pos 8) ∷ decompose 0 
 decompose-is-decoded : decoded from60 .projector ≡ Decompose 0 (pos 0) (some 60) (Axis 4 0 0 ∷ [])
 unfolding decoding
 decompose-is-decoded = refl
+
+from60-is-accepted : fileFault from60 ≡ none
+unfolding judging
+from60-is-accepted = refl
+
+-- `packing-valid` applied.
+from60-is-valid : PackingValid (some 60) (Axis 4 0 0 ∷ [])
+from60-is-valid = packing-valid from60 (file-good from60 from60-is-accepted .whole) 0 (pos 0) (some 60) (Axis 4 0 0 ∷ []) decompose-is-decoded
 
 none-from-2-to-the-63-on :
     (engine : Engine) → verdicts engine (decoded from60) ≡ passes (some (pos (7 * 2 ^ 60 + 7))) (pos 7 ∷ []) ∷ passes none (pos 8 ∷ []) ∷ []

@@ -7,7 +7,7 @@ use native.Mathlib.Nat.{add-suc, add-zero, le-refl, suc-add, zero-add}
 use native.Mathlib.Omega.{arith}
 use lib.ListN.{List·getD-append, getD, length, replicate, set}
 use lib.Seq.{getD-append-add, set-append-left}
-use Rattle.lists.specs.Lists.{all, any, concatMap, consIf, countIf, filter, mapFrom, sucIf}
+use Rattle.lists.specs.Lists.{all, any, concatMap, consIf, countIf, filter, isEmpty, mapFrom, sucIf}
 use Rattle.lists.proofs.All.{All, []ᴬ, _∷ᴬ_}
 
 sucIf-append : (b : Bool) (m n : ℕ) → sucIf b (m + n) ≡ sucIf b m + n
@@ -102,6 +102,10 @@ module _ {A : Type 0} where
       go true false h e = omega arith
       go false true h e = omega arith
       go false false h e = e
+
+  pub length-pos : (xs : List A) → isEmpty xs ≡ false → 0 < length xs
+  length-pos [] e = absurd (true≢false e)
+  length-pos (x ∷ xs) e = omega arith
 
   pub filter-ext : (p q : A → Bool) → ((x : A) → p x ≡ q x) → (xs : List A) → filter p xs ≡ filter q xs
   filter-ext p q h [] = refl

@@ -1,7 +1,7 @@
 -- From a test to a fact, and back.
-use mathlib.Core.Bool.{Bool, _&&_, _||_, false, false≢true, not, true, true≢false}
+use mathlib.Core.Bool.{Bool, _&&_, _||_, cond, false, false≢true, not, true, true≢false}
 use mathlib.Core.Path.{_≡_, refl, subst, sym}
-use Prim.Native.Nat.{_<_, _≤_, ℕ}
+use Prim.Native.Nat.{_<_, _≤_, suc, ℕ}
 use native.Mathlib.Omega.{arith}
 use lib.Dec.{T, eqb, eqb-refl, eqb→eq, leb, leb→le, le→leb, ltb, ltb→lt, lt→ltb, nleb→lt, nltb→le}
 
@@ -81,3 +81,8 @@ leb-ext a b c d f g = bool-ext (leb a b) (leb c d) (λ e. leb-yes c d (f (yes-le
 
 pub eqb-ext : (a b c d : ℕ) → (a ≡ b → c ≡ d) → (c ≡ d → a ≡ b) → eqb a b ≡ eqb c d
 eqb-ext a b c d f g = bool-ext (eqb a b) (eqb c d) (λ e. eqb-yes c d (f (yes-eq a b e))) (λ e. eqb-yes a b (g (yes-eq c d e)))
+
+-- a number that is given where a test is true, and 0 where it is not
+pub cond-zero : (b : Bool) (n : ℕ) → cond b (suc n) 0 ≡ 0 → b ≡ false
+cond-zero true n e = absurd (omega arith)
+cond-zero false n e = refl

@@ -1,2 +1,3 @@
 pub mod Axes
 pub mod Packing
+pub mod Valid

@@ -1,24 +1,26 @@
--- What a file without faults decodes to: as many fields and constraints as it has groups of them, and constraints that name only its fields.
+-- What a file without faults decodes to: as many fields and constraints as it has groups of them, at most 32 and 256; no empty domain; constraints and a projector that name only its fields.
 use mathlib.Core.Bool.{Bool, _&&_, _||_, false, false≢true, not, true, true≢false}
-use mathlib.Core.List.{List, [], _++_, _∷_, map}
+use mathlib.Core.List.{List, [], _++_, _∷_, foldl, map}
 use mathlib.Core.Option.{none}
 use mathlib.Core.Path.{_∙_, _≡_, ap, ap₂, refl, subst, sym}
-use Prim.Native.Nat.{_%_, _+_, _<_, _≤_, suc, ℕ}
+use Prim.Native.Nat.{_%_, _+_, _<_, _≤_, suc, zero, ℕ}
 use native.Mathlib.Nat.{zero-add}
+use native.Mathlib.Omega.{arith}
 use lib.Dec.{eqb, leb, ltb}
-use lib.ListN.{length}
+use lib.ListN.{length, length-map}
 use mir.Syntax.{named}
-use Rattle.lists.specs.Lists.{concatMap, consIf}
+use Rattle.lists.specs.Lists.{concatMap, consIf, isEmpty}
 use Rattle.lists.proofs.All.{All, All-append, []ᴬ, _∷ᴬ_}
-use Rattle.lists.proofs.Lists.{concatMap-filter}
-use Rattle.lists.proofs.Tests.{ltb-no, no-ge, no-gt, or-split, yes-eq}
-use Rattle.spec.specs.Domain.{tooMany}
-use Rattle.spec.specs.Kind.{ConstraintKind, Kind, MemberKind, assign, axis, bitmask, constraint, cross, disable, enableMask, enableSet, eq, even, field, ge, gt, isConstraint, isField, isMember, item, key, le, lt, member, memberRow, names, neq, oneof, pair, projector, range, rowOf, unknown, value}
-use Rattle.spec.specs.Record.{Group, Record, assignmentOf, constraintBy, constraintIn, constraintOf, decoded, fieldIn, fieldOf, group, groups, recordsOf, specOf}
-use Rattle.spec.specs.Refusal.{context, fileFault, noSuchField, ragged, recordsFault, refuseIf}
-use Rattle.spec.proofs.Good.{ConstraintGood, GoodBy, MembersGood, Whole, constraintGroups, fieldGroups, good-parts, headIs, records-whole, whole-records}
+use Rattle.lists.proofs.Lists.{concatMap-filter, length-pos}
+use Rattle.lists.proofs.Tests.{cond-zero, eqb-yes, ltb-no, no-ge, no-gt, or-split, yes-eq}
+use Rattle.spec.specs.Domain.{domain, tooMany}
+use Rattle.spec.specs.Kind.{ConstraintKind, Kind, MemberKind, ProjectorKind, assign, axis, bitmask, constraint, cross, decompose, disable, enableMask, enableSet, eq, even, field, ge, gt, identity, isConstraint, isField, isMember, item, key, le, lt, member, memberRow, names, neq, oneof, pair, parity, projector, range, rowOf, sum, unknown, value}
+use Rattle.spec.specs.Record.{Group, Record, assignmentOf, constraintBy, constraintIn, constraintOf, decoded, fieldBy, fieldIn, fieldOf, group, groups, projectorBy, projectorIn, projectorOf, recordsOf, specOf}
+use Rattle.spec.specs.Refusal.{Context, after, afterHead, blankBy, context, fileFault, noSuchField, ragged, recordsFault, refuseIf}
+use Rattle.spec.specs.Spec.{FieldSpec, ProjectorSpec, Sum}
+use Rattle.spec.proofs.Good.{ConstraintGood, Good, GoodBy, MembersGood, Whole, constraintGroups, fieldGroups, good-parts, headIs, list-good, records-whole, whole-records}
 use Rattle.spec.proofs.Groups.{groups-proper}
-use Rattle.spec.proofs.Named.{Named, NamesBelow, WritesBelow}
+use Rattle.spec.proofs.Named.{Named, NamesBelow, ProjectsBelow, WritesBelow}
 use Rattle.spec.proofs.Refusals.{refuseIf-no, refuseIf-ok, ▷-left, ▷-none, ▷-right}
 
 fieldIn-other : (k : Kind) (h : Record) (ms : List Record) → isField k ≡ false → fieldIn k h ms ≡ []
@@ -144,6 +146,92 @@ whole-named rs w =
 pub decoded-named : (file : List ℕ) → Whole (recordsOf file) → Named (decoded file)
 unfolding decoded
 decoded-named file w = whole-named (recordsOf file) w
+
+projectorBy-named : (k : ProjectorKind) (c : Context) (n : ℕ) (h : Record) (ms : List Record) → c .fields ≤ n → GoodBy (projector k) c h ms → ProjectsBelow n (projectorBy k h ms)
+projectorBy-named sum c n h ms l g = tt
+projectorBy-named identity c n h ms l g = let b = a-below (c .fields) 0 0 h ms (g .0 .named) in omega arith
+projectorBy-named parity c n h ms l g = let b = a-below (c .fields) 0 0 h ms (g .0 .named) in omega arith
+projectorBy-named decompose c n h ms l g = let b = a-below (c .fields) 0 0 h ms (g .0 .named) in omega arith
+
+projector-named : (c : Context) (gs : List Group) (n : ℕ) (d : ProjectorSpec) → Good c gs → c .fields + length (fieldGroups gs) ≤ n → ProjectsBelow n d → ProjectsBelow n (foldl projectorOf d gs)
+projector-named c [] n d g l p = p
+projector-named c (group h ms ∷ gs) n d g l p = one (h .kind) (g .0) l (λ x. projector-named (after c (group h ms)) gs n x (g .1))
+  where
+    one : (k : Kind) → GoodBy k c h ms → c .fields + length (consIf (isField k) (group h ms) (fieldGroups gs)) ≤ n
+        → ((x : ProjectorSpec) → afterHead k c .fields + length (fieldGroups gs) ≤ n → ProjectsBelow n x → ProjectsBelow n (foldl projectorOf x gs))
+        → ProjectsBelow n (foldl projectorOf (projectorIn k h ms d) gs)
+    one field q l rest = rest d (omega arith) p
+    one unknown q l rest = rest d l p
+    one (constraint k) q l rest = rest d l p
+    one (projector k) q l rest = rest (projectorBy k h ms) l (projectorBy-named k c n h ms (omega arith) q)
+    one (member k) q l rest = rest d l p
+
+-- The field that the projector names, if it names one, is one of the file's.
+pub decoded-projects : (file : List ℕ) → Whole (recordsOf file) → ProjectsBelow (length (decoded file .fields)) (decoded file .projector)
+unfolding decoded specOf
+decoded-projects file w =
+    projector-named (context 0 0 0) (groups (recordsOf file)) (length (concatMap fieldOf (groups (recordsOf file)))) Sum (w .good) (omega (arith, count-fields (groups (recordsOf file)))) tt
+
+-- ---- sizes
+-- A field whose domain is not empty.
+abbrev pub Filled : FieldSpec → Type 0
+Filled d = 0 < length (domain d)
+
+field-filled : (c : Context) (h : Record) (ms : List Record) → GoodBy field c h ms → (b : ℕ) → h .b ≡ b → Filled (fieldBy b h ms)
+field-filled c h ms g zero e = length-pos (domain (fieldBy 0 h [])) (sym (ap (λ (b : ℕ). blankBy b h) e) ∙ g .0 .filled)
+field-filled c h ms g (suc zero) e = length-pos (domain (fieldBy 1 h [])) (sym (ap (λ (b : ℕ). blankBy b h) e) ∙ g .0 .filled)
+field-filled c h ms g (suc (suc b)) e =
+    let two : h .b ≡ 2 = let q = no-ge 2 (h .b) (g .0 .known) in omega arith in
+    let some-value = cond-zero (eqb (h .b) 2 && isEmpty ms) 7 (list-good field (suc (c .fields)) h [] ms (g .1)) in
+    let l = length-pos ms (sym (ap (λ t. t && isEmpty ms) (eqb-yes (h .b) 2 two)) ∙ some-value) in
+    rw (length-map ms (λ (m : Record). m .p)) l
+
+fields-filled : (c : Context) (gs : List Group) → Good c gs → All Filled (concatMap fieldOf gs)
+fields-filled c [] g = []ᴬ
+fields-filled c (group h ms ∷ gs) g = All-append (one (h .kind) (g .0)) (fields-filled (after c (group h ms)) gs (g .1))
+  where
+    one : (k : Kind) → GoodBy k c h ms → All Filled (fieldIn k h ms)
+    one field q = field-filled c h ms q (h .b) refl ∷ᴬ []ᴬ
+    one unknown q = []ᴬ
+    one (constraint k) q = []ᴬ
+    one (projector k) q = []ᴬ
+    one (member k) q = []ᴬ
+
+fields-few : (c : Context) (gs : List Group) → Good c gs → c .fields ≤ 32 → c .fields + length (fieldGroups gs) ≤ 32
+fields-few c [] g l = omega arith
+fields-few c (group h ms ∷ gs) g l = one (h .kind) (g .0) (fields-few (after c (group h ms)) gs (g .1))
+  where
+    one : (k : Kind) → GoodBy k c h ms → (afterHead k c .fields ≤ 32 → afterHead k c .fields + length (fieldGroups gs) ≤ 32) → c .fields + length (consIf (isField k) (group h ms) (fieldGroups gs)) ≤ 32
+    one field q ih = let room = no-gt 32 (c .fields) (q .0 .roomy) in let rest = ih (omega arith) in omega arith
+    one unknown q ih = ih l
+    one (constraint k) q ih = ih l
+    one (projector k) q ih = ih l
+    one (member k) q ih = ih l
+
+constraints-few : (c : Context) (gs : List Group) → Good c gs → c .constraints ≤ 256 → c .constraints + length (constraintGroups gs) ≤ 256
+constraints-few c [] g l = omega arith
+constraints-few c (group h ms ∷ gs) g l = one (h .kind) (g .0) (constraints-few (after c (group h ms)) gs (g .1))
+  where
+    one : (k : Kind) → GoodBy k c h ms → (afterHead k c .constraints ≤ 256 → afterHead k c .constraints + length (constraintGroups gs) ≤ 256)
+        → c .constraints + length (consIf (isConstraint k) (group h ms) (constraintGroups gs)) ≤ 256
+    one field q ih = ih l
+    one unknown q ih = ih l
+    one (constraint k) q ih = let room = no-gt 256 (c .constraints) (q .0 .roomy) in let rest = ih (omega arith) in omega arith
+    one (projector k) q ih = ih l
+    one (member k) q ih = ih l
+
+-- No field's domain is empty.
+pub decoded-filled : (file : List ℕ) → Whole (recordsOf file) → All Filled (decoded file .fields)
+unfolding decoded specOf
+decoded-filled file w = fields-filled (context 0 0 0) (groups (recordsOf file)) (w .good)
+
+-- At most 32 fields and 256 constraints.
+pub decoded-few : (file : List ℕ) → Whole (recordsOf file) → (length (decoded file .fields) ≤ 32) × (length (decoded file .constraints) ≤ 256)
+unfolding decoded specOf
+decoded-few file w = (
+  (let few = fields-few (context 0 0 0) (groups (recordsOf file)) (w .good) (omega arith) in omega (arith, count-fields (groups (recordsOf file)))),
+  (let few = constraints-few (context 0 0 0) (groups (recordsOf file)) (w .good) (omega arith) in omega (arith, count-constraints (groups (recordsOf file)))),
+)
 
 -- ---- the parts of "not refused by 1 to 10"
 pub record FileGood (file : List ℕ) : Type 0 where

@@ -1,6 +1,6 @@
 -- A file whose records have no fault, as facts about its groups.
 use mathlib.Core.Bool.{Bool, _&&_, _||_, cond, false, false≢true, true, true≢false}
-use mathlib.Core.List.{List, [], _++_, _∷_}
+use mathlib.Core.List.{List, [], _++_, _∷_, append-assoc, append-nil}
 use mathlib.Core.Option.{Option, none}
 use mathlib.Core.Path.{_∙_, _≡_, ap, ap₂, refl, subst, sym}
 use Prim.Native.Nat.{_+_, _<_, _≤_, suc, ℕ}
@@ -107,6 +107,11 @@ groups-good c i (g ∷ gs) e = (group-good c i g (▷-left _ _ e), groups-good (
 pub good-groups : (c : Context) (i : ℕ) (gs : List Group) → Good c gs → groupsFault c i gs ≡ none
 good-groups c i [] g = rw g
 good-groups c i (x ∷ gs) g = ▷-none (good-group c i x (g .0)) (good-groups (after c x) (i + sizeOf x) gs (g .1))
+
+-- A list of good members has no fault as a whole.
+pub list-good : (k : Kind) (n : ℕ) (h : Record) (before ms : List Record) → MembersGood k n h before ms → listFault k h (before ++ ms) ≡ 0
+list-good k n h before [] g = ap (listFault k h) (append-nil before) ∙ g
+list-good k n h before (m ∷ ms) g = ap (listFault k h) (sym (append-assoc before (m ∷ []) ms)) ∙ list-good k n h (before ++ (m ∷ [])) ms (g .2)
 
 -- ---- a whole file
 -- The records are their groups laid end to end, and the groups are good.

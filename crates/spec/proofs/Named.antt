@@ -1,8 +1,8 @@
--- Every field that a constraint names is below n, and n is the number of fields.
+-- Every field that a constraint or the projector names is below n, and n is the number of fields.
 use Prim.Native.Nat.{_<_, ℕ}
 use lib.ListN.{length}
 use Rattle.lists.proofs.All.{All}
-use Rattle.spec.specs.Spec.{Assign, Check, ConstraintSpec, Cross, Enable, Eq, FieldAssignment, Neq, Spec}
+use Rattle.spec.specs.Spec.{Assign, Check, ConstraintSpec, Cross, Decompose, Enable, Eq, FieldAssignment, Identity, Neq, Parity, ProjectorSpec, Spec, Sum}
 
 abbrev pub width : Spec → ℕ
 width s = length (s .fields)
@@ -20,3 +20,10 @@ NamesBelow n (Enable e f trigger writes) = (f < n) × All (WritesBelow n) writes
 -- A specification that names only fields that it has.
 abbrev pub Named : Spec → Type 0
 Named s = All (NamesBelow (width s)) (s .constraints)
+
+-- The field that a projector names is below n.
+abbrev pub ProjectsBelow : ℕ → ProjectorSpec → Type 0
+ProjectsBelow n Sum = Unit {0}
+ProjectsBelow n (Identity f) = f < n
+ProjectsBelow n (Parity f) = f < n
+ProjectsBelow n (Decompose f base offset axes) = f < n
