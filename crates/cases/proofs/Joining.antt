@@ -7,13 +7,15 @@ use lib.IntN.{pos}
 use lib.ListN.{replicate}
 use Rattle.lists.specs.Lists.{concatMap, upto}
 use Rattle.spec.specs.Refusal.{refused, accepted}
-use Rattle.join.specs.Join.{joined, JoinRefused, joinFault, joinAnswer, joinOutput}
+use Rattle.join.specs.Join.{Which, first, second, joined, JoinRefused, joinFault, joinAnswer, joinOutput}
 use Rattle.cases.proofs.Build.{file, noRange, ranged, even, oneof, item, sum, identity, only, bit, joining}
 use Rattle.cases.proofs.Bench.{bench}
 
--- Refused for the joined file.
+abbrev refusedFor : Which → (number at : ℕ) → JoinRefused
+refusedFor which number at = record { which = which; why = record { number = number; at = at } }
+
 abbrev forJoined : (number : ℕ) → JoinRefused
-forJoined number = record { which = joined; why = record { number = number; at = 0 } }
+forJoined number = refusedFor joined number 0
 
 -- ---- answer and output
 -- The bench file has 11 records. Joined with itself it has 21, since the two sums become one: 672 bytes. The output may be longer.
@@ -30,6 +32,18 @@ a-refused-join-leaves-the-output :
     map (λ other. joinOutput bench other (replicate 671 9)) (bench ∷ file (bit 0 ∷ []) ∷ file (bit 0 ∷ identity 0 ∷ []) ∷ []) ≡ replicate 3 (replicate 671 9)
 unfolding joining
 a-refused-join-leaves-the-output = refl
+
+-- ---- the first file, the second, the joined file
+-- Both have no projector; both have an identity.
+the-first-file-comes-before-the-second :
+    map (λ both. joinFault 0 both both) (file (bit 0 ∷ []) ∷ file (bit 0 ∷ identity 0 ∷ []) ∷ []) ≡ some (refusedFor first 4 2) ∷ some (refusedFor first 16 2) ∷ []
+unfolding joining
+the-first-file-comes-before-the-second = refl
+
+-- The joined file would have 34 fields.
+sixteen-comes-before-five : joinFault 0 (file (map bit (upto 17) ++ (sum ∷ []))) (file (map bit (upto 17) ++ (identity 0 ∷ []))) ≡ some (refusedFor second 16 18)
+unfolding joining
+sixteen-comes-before-five = refl
 
 -- ---- 5
 -- A file of n fields, each with one value, and c constraints.
