@@ -6,5 +6,9 @@ pub mod Pairwise
 pub mod Numbers
 pub mod Pairs
 pub mod First
+pub mod Table
+pub mod Range
 pub mod Bits
 pub mod Integers
+pub mod Words
+pub mod Signed

@@ -1,5 +1,13 @@
 pub mod Domain
 pub mod Named
+pub mod Words
+pub mod Uses
+pub mod Left
+pub mod Turns
+pub mod Fields
+pub mod Runs
+pub mod Multiples
+pub mod Axis
 pub mod Refusals
 pub mod Judged
 pub mod Files
@@ -7,3 +15,5 @@ pub mod Groups
 pub mod Good
 pub mod Sections
 pub mod Accepted
+pub mod Shapes
+pub mod Answers

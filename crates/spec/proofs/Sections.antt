@@ -86,19 +86,26 @@ module _ (i : ℕ) (test : Kind → Bool) (agree : (k : Kind) → isMember k ≡
       go true e = ap (λ l. h ∷ (l ++ flat (filter (headIs test) gs))) (filter-every (inPart i) (All-imp (λ m w. ap (λ (k : ℕ). eqb k i) w ∙ e) q))
       go false e = ap (λ l. l ++ flat (filter (headIs test) gs)) (filter-none (inPart i) (All-imp (λ m w. ap (λ (k : ℕ). eqb k i) w ∙ e) q))
 
-field-section : (k : Kind) → isMember k ≡ false → isField k ≡ eqb (sectionOf k) 0
+pub field-section : (k : Kind) → isMember k ≡ false → isField k ≡ eqb (sectionOf k) 0
 field-section field e = refl
 field-section unknown e = refl
 field-section (constraint k) e = refl
 field-section (projector k) e = refl
 field-section (member k) e = absurd (true≢false e)
 
-constraint-section : (k : Kind) → isMember k ≡ false → isConstraint k ≡ eqb (sectionOf k) 1
+pub constraint-section : (k : Kind) → isMember k ≡ false → isConstraint k ≡ eqb (sectionOf k) 1
 constraint-section field e = refl
 constraint-section unknown e = refl
 constraint-section (constraint k) e = refl
 constraint-section (projector k) e = refl
 constraint-section (member k) e = absurd (true≢false e)
+
+pub not-field : (k : Kind) → isMember k ≡ true → isField k ≡ false
+not-field field e = absurd (false≢true e)
+not-field unknown e = refl
+not-field (constraint k) e = refl
+not-field (projector k) e = refl
+not-field (member k) e = refl
 
 module _ {rs : List Record} (w : Whole rs) where
   in-part : (i : ℕ) (test : Kind → Bool) → ((k : Kind) → isMember k ≡ false → test k ≡ eqb (sectionOf k) i) → filter (inPart i) rs ≡ flat (filter (headIs test) (groups rs))
@@ -115,13 +122,6 @@ module _ {rs : List Record} (w : Whole rs) where
   pub field-heads : length (filter (λ h. isField (h .kind)) rs) ≡ length (fieldGroups (groups rs))
   field-heads = ap (λ l. length (filter (λ h. isField (h .kind)) l)) (whole-flat w) ∙ count (groups-proper rs)
     where
-      not-field : (k : Kind) → isMember k ≡ true → isField k ≡ false
-      not-field field e = absurd (false≢true e)
-      not-field unknown e = refl
-      not-field (constraint k) e = refl
-      not-field (projector k) e = refl
-      not-field (member k) e = refl
-
       count : {gs : List Group} → All Proper gs → length (filter (λ h. isField (h .kind)) (flat gs)) ≡ length (fieldGroups gs)
       count []ᴬ = refl
       count (_∷ᴬ_ {x = group h ms} {xs = gs} p t) = go (isField (h .kind)) (count t)

@@ -3,3 +3,5 @@ pub mod Domain
 pub mod Kind
 pub mod Record
 pub mod Refusal
+pub mod Shape
+pub mod Code

@@ -3,7 +3,7 @@ use mathlib.Core.Bool.{Bool, true, false, cond}
 use mathlib.Core.Option.{Option, none, some}
 use mathlib.Core.List.{List, [], _∷_, map}
 use mathlib.Core.List.{foldl}
-use Prim.Native.Nat.{ℕ, zero, suc, _/_}
+use Prim.Native.Nat.{ℕ, zero, suc, _*_, _/_}
 use lib.Dec.{eqb}
 use lib.IntN.{ℤ, pos, negsuc, natAbs}
 use lib.ListN.{length, getD, take, drop}
@@ -50,6 +50,10 @@ partsOf file = chunks (length file / 32) file
 
 unfoldable pub recordsOf : List ℕ → List Record
 recordsOf file = map recordOf (partsOf file)
+
+-- Record i of a file, counting from 0.
+abbrev pub recordAt : List ℕ → ℕ → Record
+recordAt file i = recordOf (take 32 (drop (i * 32) file))
 
 abbrev pub whileMember : Bool → Record → List Record → List Record
 whileMember true m ms = m ∷ ms

@@ -161,8 +161,11 @@ abbrev pub memberTests : Kind → ℕ → Record → List Record → Record → 
 memberTests k n h before m = false ∷ strayByte k m ∷ notDue k (h .a) m ∷ false ∷ noSuchField k n m ∷ offScale k m ∷ false ∷ badPacking k before m ∷ []
 
 -- A member that its head does not take, or that no head stands before, is out of order.
+abbrev pub misfiledNumber : Record → ℕ
+misfiledNumber m = firstTrue 2 (false ∷ strayByte (m .kind) m ∷ true ∷ [])
+
 abbrev pub misfiled : Record → ℕ → Option Refused
-misfiled m i = refuse (firstTrue 2 (false ∷ strayByte (m .kind) m ∷ true ∷ [])) i
+misfiled m i = refuse (misfiledNumber m) i
 
 -- ---- whole lists
 -- q is −1..63, and not below the highest shift + width.

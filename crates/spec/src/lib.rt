@@ -1,1 +1,11 @@
 // Module 1, after src/spec/mod.rs: the records of a rules file, refusals 1 to 10, domains. Its definitions are in specs/.
+mod axes;
+pub mod domains;
+mod faults;
+mod judge;
+pub mod kinds;
+pub mod numbers;
+pub mod records;
+mod scan;
+mod shape;
+pub mod validate;

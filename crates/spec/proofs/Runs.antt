@@ -1,0 +1,87 @@
+-- Runs of records: the part of a file that they are, and the turns of the loops over them.
+use mathlib.Core.Bool.{Bool, false, true}
+use mathlib.Core.List.{List, [], _∷_, map}
+use mathlib.Core.Path.{_∙_, _≡_, ap, ap₂, refl, sym}
+use Prim.Native.Nat.{_*_, _+_, _-_, _/_, _<_, _≤_, suc, zero, ℕ}
+use native.Mathlib.Numerals.{add-one}
+use native.Mathlib.Omega.{arith}
+use lib.IntN.{ℤ}
+use lib.ListN.{drop, drop-of-length-le, length, length-append, length-drop, length-take, take}
+use lib.Seq.{drop-drop, take-at, take-nil, take-take}
+use Rattle.lists.specs.Integers.{elemZ, eqZ}
+use Rattle.spec.specs.Code.{psOf}
+use Rattle.spec.specs.Kind.{isMember}
+use Rattle.spec.specs.Record.{Record, chunks, groups, memberRun, partsOf, recordAt, recordOf, recordsOf}
+use Rattle.spec.proofs.Fields.{length-records, records-from}
+use Rattle.spec.proofs.Groups.{flat, records-flat}
+
+drop-take : (k n m : ℕ) (l : List ℕ) → k + n ≡ m → drop k (take m l) ≡ take n (drop k l)
+drop-take zero n m l e = let q : m ≡ n = omega arith in ap (λ (j : ℕ). take j l) q
+drop-take (suc k) n zero l e = absurd (omega arith)
+drop-take (suc k) n (suc m) [] e = sym (take-nil n)
+drop-take (suc k) n (suc m) (x ∷ l) e = drop-take k n m l (omega arith)
+
+-- The first record, and the records after it.
+records-cons : (l : List ℕ) → 32 ≤ length l → recordsOf l ≡ recordOf (take 32 l) ∷ recordsOf (drop 32 l)
+unfolding recordsOf partsOf
+records-cons l h =
+    let e : length l / 32 ≡ suc (length (drop 32 l) / 32) = omega (arith, length-drop 32 l) in
+    ap (λ (n : ℕ). map recordOf (chunks n l)) e
+
+-- m records from record i on are so many bytes.
+run-records : (m i : ℕ) (file : List ℕ) → i + m ≤ length file / 32 → recordsOf (take (m * 32) (drop (i * 32) file)) ≡ take m (drop i (recordsOf file))
+unfolding recordsOf partsOf
+run-records zero i file h = refl
+run-records (suc m) i file h =
+    let bytes = drop (i * 32) file in
+    let long : 32 ≤ length (take (suc m * 32) bytes) = omega (arith, length-drop (i * 32) file, length-take (suc m * 32) bytes) in
+    records-cons (take (suc m * 32) bytes) long
+    ∙ ap₂ (λ (r : List ℕ) (l : List ℕ). recordOf r ∷ recordsOf l) (take-take 32 (suc m * 32) bytes (omega arith))
+    (drop-take 32 (m * 32) (suc m * 32) bytes (omega arith) ∙ ap (λ (l : List ℕ). take (m * 32) l) (drop-drop 32 (i * 32) file ∙ ap (λ (k : ℕ). drop k file) (let e : i * 32 + 32 ≡ suc i * 32 = omega arith in e)))
+    ∙ ap (λ (l : List Record). recordAt file i ∷ l) (run-records m (suc i) file (omega arith))
+    ∙ ap (take (suc m)) (sym (records-from file i (omega arith)))
+
+pub part-records : (file : List ℕ) (from to : ℕ) → from ≤ to → to ≤ length file / 32 → recordsOf (take (to * 32 - from * 32) (drop (from * 32) file)) ≡ take (to - from) (drop from (recordsOf file))
+part-records file from to h k =
+    let e : to * 32 - from * 32 ≡ (to - from) * 32 = omega arith in
+    ap (λ (n : ℕ). recordsOf (take n (drop (from * 32) file))) e ∙ run-records (to - from) from file (omega arith)
+
+-- ---- the members after a head
+-- A run is the front of its records.
+pub run-front : (rs : List Record) → memberRun rs ≡ take (length (memberRun rs)) rs
+run-front rs = sym (ap (take (length (memberRun rs))) (records-flat rs) ∙ take-at (memberRun rs) (flat (groups rs)) (length (memberRun rs)) refl)
+
+run-le : (rs : List Record) → length (memberRun rs) ≤ length rs
+run-le rs = omega (arith, ap length (records-flat rs), length-append (memberRun rs) (flat (groups rs)))
+
+module _ (file : List ℕ) where
+  -- How many members there are from record i on.
+  abbrev pub runLength : ℕ → ℕ
+  runLength i = length (memberRun (drop i (recordsOf file)))
+
+  pub run-inside : (i : ℕ) → i ≤ length file / 32 → i + runLength i ≤ length file / 32
+  run-inside i h = omega (arith, run-le (drop i (recordsOf file)), length-drop i (recordsOf file), length-records file)
+
+  pub run-more : (i : ℕ) → i < length file / 32 → isMember (recordAt file i .kind) ≡ true → runLength i ≡ suc (runLength (i + 1))
+  run-more i h t = rw (add-one, records-from file i h) (rw t)
+
+  pub run-stop : (i : ℕ) → i < length file / 32 → isMember (recordAt file i .kind) ≡ false → runLength i ≡ 0
+  run-stop i h t = rw (records-from file i h) (rw t)
+
+  pub run-end : (i : ℕ) → length file / 32 ≤ i → runLength i ≡ 0
+  run-end i h = let e : length (recordsOf file) ≤ i = omega (arith, length-records file) in rw (drop-of-length-le (recordsOf file) e)
+
+-- ---- the search of a run for a value
+module _ (v : ℤ) (run : List ℕ) where
+  -- The value is the p of a record from i on.
+  abbrev pub hasFrom : ℕ → Bool
+  hasFrom i = elemZ v (psOf (drop i (recordsOf run)))
+
+  pub has-here : (i : ℕ) → i < length run / 32 → eqZ v (recordAt run i .p) ≡ true → hasFrom i ≡ true
+  has-here i h t = rw (records-from run i h) (rw t)
+
+  pub has-past : (i : ℕ) → i < length run / 32 → eqZ v (recordAt run i .p) ≡ false → hasFrom i ≡ hasFrom (i + 1)
+  has-past i h t = rw (add-one, records-from run i h) (rw t)
+
+  pub has-end : (i : ℕ) → length run / 32 ≤ i → hasFrom i ≡ false
+  has-end i h = let e : length (recordsOf run) ≤ i = omega (arith, length-records run) in rw (drop-of-length-le (recordsOf run) e)

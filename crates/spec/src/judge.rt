@@ -1,0 +1,140 @@
+// The tests 2 to 9 of one record, and the number that it is refused with.
+use crate::kinds::Class;
+use crate::kinds::NAMES;
+use crate::kinds::NATURAL;
+use crate::kinds::OWN;
+use crate::kinds::Row;
+use crate::kinds::UNUSED;
+use crate::kinds::class_of;
+use crate::kinds::row_of;
+use crate::kinds::section_of;
+use crate::records::Record;
+ghost use mathlib.Core.Path.{_≡_};
+ghost use mathlib.Core.Bool.{true, false};
+ghost use Prim.Native.Nat.{_≤_, _<_};
+ghost use lib.IntN.{pos};
+ghost use lib.Signed.{ltZ};
+ghost use Rattle.lists.specs.Integers.{eqZ};
+ghost use Rattle.spec.specs.Kind.{kindOf};
+ghost use Rattle.spec.specs.Refusal.{unknownKind, strayByte, notDue, outOfOrder, overfull, noSuchField, onScale, offScale};
+ghost use Rattle.spec.specs.Code.{asRecord, asContext, strayCode, dueCode, namedCode, scaledCode};
+
+// Where a head stands: how many fields and constraints are before it, and the section that was reached: 0 fields, 1 constraints, 2 projector.
+pub struct Context {
+    pub fields: usize,
+    pub constraints: usize,
+    pub section: u8,
+}
+
+fn is_zero(x: i64) -> bool
+    ensures { λ r. ⌜ r ≡ eqZ x (pos 0) ⌝ }
+{
+    x == 0
+}
+
+fn is_negative(x: i64) -> bool
+    ensures { λ r. ⌜ r ≡ ltZ x (pos 0) ⌝ }
+{
+    x < 0
+}
+
+// 2: an unknown kind, or a field of an unknown form.
+pub fn unknown_kind(h: Record) -> bool
+    ensures { λ r. ⌜ r ≡ unknownKind (kindOf (h .code)) (asRecord h) ⌝ }
+{
+    match class_of(h.code) {
+        Class::Field => 2 < h.b,
+        Class::Member => false,
+        Class::Constraint => false,
+        Class::Projector => false,
+        Class::Unknown => true,
+    }
+}
+
+fn stray_by(w: Row, h: Record) -> bool
+    ensures { λ r. ⌜ r ≡ strayCode w h ⌝ }
+{
+    (h.padding != 0)
+        | ((w.a == UNUSED) & (h.a != 0))
+        | ((w.b == UNUSED) & (h.b != 0))
+        | ((w.p == UNUSED) & !is_zero(h.p))
+        | ((w.q == UNUSED) & !is_zero(h.q))
+        | ((w.r == UNUSED) & !is_zero(h.r))
+}
+
+// 3: something that the kind does not use is not 0.
+pub fn stray_byte(h: Record) -> bool
+    ensures { λ r. ⌜ r ≡ strayByte (kindOf (h .code)) (asRecord h) ⌝ }
+{
+    stray_by(row_of(h.code, h.b), h)
+}
+
+fn due_by(w: Row, due: usize, h: Record) -> bool
+    ensures { λ r. ⌜ r ≡ dueCode w due h ⌝ }
+{
+    (w.a == OWN) & (h.a != due)
+}
+
+// 4: a is not the number due.
+pub fn not_due(h: Record, due: usize) -> bool
+    ensures { λ r. ⌜ r ≡ notDue (kindOf (h .code)) due (asRecord h) ⌝ }
+{
+    due_by(row_of(h.code, h.b), due, h)
+}
+
+// 4: fields, then constraints, then one projector.
+pub fn out_of_order(h: Record, c: Context) -> bool
+    ensures { λ r. ⌜ r ≡ outOfOrder (kindOf (h .code)) (asContext c) (asRecord h) ⌝ }
+{
+    (section_of(h.code) < c.section) | (c.section == 2) | not_due(h, c.fields)
+}
+
+// 5: the 33rd field, the 257th constraint.
+pub fn over_full(h: Record, c: Context) -> bool
+    ensures { λ r. ⌜ r ≡ overfull (kindOf (h .code)) (asContext c) ⌝ }
+{
+    match class_of(h.code) {
+        Class::Field => 32 <= c.fields,
+        Class::Member => false,
+        Class::Constraint => 256 <= c.constraints,
+        Class::Projector => false,
+        Class::Unknown => false,
+    }
+}
+
+fn named_by(w: Row, n: usize, h: Record) -> bool
+    ensures { λ r. ⌜ r ≡ namedCode w n h ⌝ }
+{
+    ((w.a == NAMES) & (n <= h.a)) | ((w.b == NAMES) & (n <= h.b))
+}
+
+// 6: a named field is not below n, the count of fields before it.
+pub fn no_such_field(h: Record, n: usize) -> bool
+    ensures { λ r. ⌜ r ≡ noSuchField (kindOf (h .code)) n (asRecord h) ⌝ }
+{
+    named_by(row_of(h.code, h.b), n, h)
+}
+
+// Within ±2^56.
+pub fn on_scale(x: i64) -> bool
+    ensures { λ r. ⌜ r ≡ onScale x ⌝ }
+{
+    (-0x100_0000_0000_0000 <= x) & (x <= 0x100_0000_0000_0000)
+}
+
+fn scaled_by(w: Row, h: Record) -> bool
+    ensures { λ r. ⌜ r ≡ scaledCode w h ⌝ }
+{
+    !on_scale(h.p)
+        | !on_scale(h.q)
+        | !on_scale(h.r)
+        | ((w.p == NATURAL) & is_negative(h.p))
+        | ((w.r == NATURAL) & is_negative(h.r))
+}
+
+// 7: p, q or r off the scale; a negative mask or step.
+pub fn off_scale(h: Record) -> bool
+    ensures { λ r. ⌜ r ≡ offScale (kindOf (h .code)) (asRecord h) ⌝ }
+{
+    scaled_by(row_of(h.code, h.b), h)
+}

@@ -1,0 +1,55 @@
+// Refusals 1 to 10, or what the layers above need.
+use crate::scan::Refusal;
+use crate::scan::scan;
+use crate::shape::LIMIT;
+use crate::shape::heads;
+use crate::shape::stands_at;
+use crate::shape::total_of;
+ghost use mathlib.Core.Path.{_≡_};
+ghost use Rattle.spec.specs.Refusal.{answer, fileFault};
+ghost use Rattle.spec.specs.Shape.{shapeOf};
+ghost use Rattle.spec.specs.Code.{asAnswer};
+
+// An accepted file: how many fields and constraints, the records before the first constraint and before the projector, the total.
+pub struct Shape {
+    pub fields: usize,
+    pub constraints: usize,
+    pub constraints_at: usize,
+    pub projector_at: usize,
+    pub total: usize,
+}
+
+pub enum Validation {
+    Accepted(Shape),
+    Refused(Refusal),
+}
+
+pub fn validate(file: &[u8]) -> Validation
+    ensures { λ r. ⌜ asAnswer r ≡ answer (fileFault (now (file .entry))) (shapeOf (now (file .entry))) ⌝ }
+{
+    let len = file.len();
+    if (len % 32 != 0) | (65536 < len) {
+        return Validation::Refused(Refusal {
+            number: 1,
+            record: 0,
+        });
+    }
+    let fault = scan(file);
+    if fault.number != 0 {
+        return Validation::Refused(fault);
+    }
+    let total = total_of(file);
+    if LIMIT < total {
+        return Validation::Refused(Refusal {
+            number: 10,
+            record: 0,
+        });
+    }
+    Validation::Accepted(Shape {
+        fields: heads(file, 0),
+        constraints: heads(file, 1),
+        constraints_at: stands_at(file, 1),
+        projector_at: stands_at(file, 2),
+        total,
+    })
+}
