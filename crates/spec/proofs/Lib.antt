@@ -17,3 +17,4 @@ pub mod Sections
 pub mod Accepted
 pub mod Shapes
 pub mod Answers
+pub mod Places

@@ -3,7 +3,7 @@ use mathlib.Core.Bool.{Bool, cond, true, false, not, _&&_, _||_}
 use mathlib.Core.List.{List, map}
 use mathlib.Core.Option.{Option}
 use mathlib.Core.Path.{_≡_}
-use Prim.Native.Nat.{ℕ, zero, suc, _+_, _-_, _*_, _≤_}
+use Prim.Native.Nat.{ℕ, zero, suc, _+_, _-_, _*_, _^_, _≤_}
 use lib.Dec.{eqb, leb, ltb}
 use lib.Signed.{ltZ}
 use Rattle.lists.specs.Integers.{eqZ}
@@ -88,6 +88,13 @@ pub record IsRise (d : code″.Rise) (step : ℕ) (p q : ℤ) : Type 0 where
   pub first : d .first ≡ firstMultiple step p
   pub step-is : d .step ≡ pos step
   pub len : d .len ≡ howMany step (firstMultiple step p) q
+
+-- k steps from the first do not leave what the code can hold.
+pub record InRise (d : code″.Rise) (k : ℕ) : Type 0 where
+  pub rising : d .step ≡ pos (natAbs (d .step))
+  pub first-in : natAbs (d .first) ≤ 2 ^ 57
+  pub steps-in : natAbs (d .step) * k ≤ 2 ^ 58
+  pub place-in : k ≤ 2 ^ 58
 
 -- The length of a field's domain, by its form and how many values it lists.
 abbrev pub lengthBy : ℕ → Record → ℕ → ℕ

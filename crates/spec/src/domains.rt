@@ -1,5 +1,6 @@
 // Domains and the field check.
 use crate::kinds::is_member;
+use crate::numbers::Index;
 use crate::numbers::Value;
 use crate::records::Record;
 use crate::records::code_at;
@@ -7,15 +8,15 @@ use crate::records::p_at;
 ghost use mathlib.Core.Path.{_≡_};
 ghost use mathlib.Core.Bool.{true, false};
 ghost use Prim.Native.Nat.{suc, _+_, _*_, _/_, _≤_, _<_};
-ghost use lib.IntN.{pos, negsuc, natAbs};
+ghost use lib.IntN.{pos, negsuc, natAbs, _+ℤ_};
 ghost use lib.Signed.{leZ};
-ghost use lib.ListN.{length, take, drop};
+ghost use lib.ListN.{length, getD, take, drop};
 ghost use Rattle.lists.specs.Integers.{eqZ, elemZ};
 ghost use Rattle.spec.specs.Domain.{firstMultiple, howMany, stepOf, onStep, domain, allows};
 ghost use Rattle.spec.specs.Record.{fieldBy, recordsOf, recordAt, memberRun};
 ghost use Rattle.spec.specs.Refusal.{onScale, negative};
 ghost use Prim.Native.Nat.{_-_};
-ghost use Rattle.spec.specs.Code.{asRecord, psOf, domainLength, InScale, IsRise};
+ghost use Rattle.spec.specs.Code.{asRecord, psOf, domainLength, InScale, InRise, IsRise};
 
 // first, first + step, ..: len of them.
 pub struct Rise {
@@ -156,4 +157,31 @@ pub fn domain_len(h: Record, values: usize) -> usize
     }
     let d = multiples(0, 255, h.r);
     d.len
+}
+
+// first + k × step.
+fn rise_value(d: Rise, k: usize) -> Value
+    requires { ⌜ InRise d k ⌝ }
+    ensures { λ v. ⌜ v .0 ≡ d .first +ℤ pos (natAbs (d .step) * k) ⌝ }
+{
+    let n = k as i64;
+    Value(d.first + d.step * n)
+}
+
+// The value at place i of the domain of field h, whose values are the records given.
+pub fn domain_value(h: Record, values: &[u8], i: Index) -> Value
+    requires { ⌜ InScale (h .p) (h .q) (h .r) × (i .0 < length (domain (fieldBy (h .b) (asRecord h) (recordsOf (now values))))) ⌝ }
+    ensures { λ v. ⌜ v .0 ≡ getD (domain (fieldBy (h .b) (asRecord h) (recordsOf (now (values .entry))))) (i .0) (pos 0) ⌝ }
+{
+    let k = i.0;
+    let form = h.b;
+    if 2 <= form {
+        return Value(p_at(values, k));
+    }
+    if form == 1 {
+        let d = multiples(h.p, h.q, h.r);
+        return rise_value(d, k);
+    }
+    let d = multiples(0, 255, h.r);
+    rise_value(d, k)
 }
