@@ -61,9 +61,20 @@ endLine c = endWord ++ (spaced (decimal (c .total)) ++ (spaced (decimal (c .emit
 abbrev pub refusedWord : List ℕ
 refusedWord = 114 ∷ 101 ∷ 102 ∷ 117 ∷ 115 ∷ 101 ∷ 100 ∷ []
 
+abbrev pub refusal : ℕ → ℕ → Refused
+refusal number recordNumber = record { number = number; at = recordNumber }
+
 -- refused, number, record.
 unfoldable pub refusedLine : Refused → List ℕ
 refusedLine r = refusedWord ++ (spaced (decimal (r .number)) ++ (spaced (decimal (r .at)) ++ newline))
+
+-- The word accepted.
+abbrev pub acceptedWord : List ℕ
+acceptedWord = 97 ∷ 99 ∷ 99 ∷ 101 ∷ 112 ∷ 116 ∷ 101 ∷ 100 ∷ []
+
+-- accepted, total: what is printed for a file that is only judged.
+unfoldable pub acceptedLine : ℕ → List ℕ
+acceptedLine total = acceptedWord ++ (spaced (decimal total) ++ newline)
 
 abbrev pub listingOf : Answer Refused Counts → List Verdict → List ℕ
 listingOf (refused r) vs = refusedLine r

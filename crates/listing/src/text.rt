@@ -1,0 +1,77 @@
+// Text put into a lent buffer from `at` on. Each call gives the place after what it put there.
+ghost use mathlib.Core.Path.{_≡_};
+ghost use mathlib.Core.List.{[], _∷_};
+ghost use Prim.Native.Nat.{_+_, _≤_};
+ghost use lib.ListN.{length};
+ghost use lib.Seq.{sets};
+ghost use Rattle.listing.specs.Text.{decimal, spaced, refusal, refusedLine, acceptedLine};
+
+pub fn put_byte(out: &mut [u8], at: usize, byte: u8) -> usize
+    requires { ⌜ at + 1 ≤ length (now out) ⌝ }
+    ensures { λ r. ⌜ now (out .exit) ≡ sets (now (out .entry)) at (byte ∷ []) ⌝ }
+    ensures { λ r. ⌜ r ≡ at + 1 ⌝ }
+{
+    out[at] = byte;
+    at + 1
+}
+
+pub fn put_word(out: &mut [u8], at: usize, word: &[u8]) -> usize
+    requires { ⌜ at + length (now word) ≤ length (now out) ⌝ }
+    ensures { λ r. ⌜ now (out .exit) ≡ sets (now (out .entry)) at (now (word .entry)) ⌝ }
+    ensures { λ r. ⌜ r ≡ at + length (now (word .entry)) ⌝ }
+{
+    let mut i = 0;
+    while i < word.len() {
+        out[at + i] = word[i];
+        i += 1;
+    }
+    at + i
+}
+
+// A number has at most 20 digits.
+pub fn put_number(out: &mut [u8], at: usize, number: u64) -> usize
+    requires { ⌜ at + 20 ≤ length (now out) ⌝ }
+    ensures { λ r. ⌜ now (out .exit) ≡ sets (now (out .entry)) at (decimal number) ⌝ }
+    ensures { λ r. ⌜ r ≡ at + length (decimal number) ⌝ }
+    ensures { λ r. ⌜ r ≤ at + 20 ⌝ }
+{
+    let mut digits = [0u8; 20];
+    let n = io::decimal(number, &mut digits);
+    put_word(out, at, &digits[..n])
+}
+
+// A space, then the number.
+pub fn put_spaced(out: &mut [u8], at: usize, number: u64) -> usize
+    requires { ⌜ at + 21 ≤ length (now out) ⌝ }
+    ensures { λ r. ⌜ now (out .exit) ≡ sets (now (out .entry)) at (spaced (decimal number)) ⌝ }
+    ensures { λ r. ⌜ r ≡ at + length (spaced (decimal number)) ⌝ }
+    ensures { λ r. ⌜ r ≤ at + 21 ⌝ }
+{
+    let next = put_byte(out, at, b' ');
+    put_number(out, next, number)
+}
+
+// The line of a refusal: at most 50 bytes.
+pub fn put_refused(out: &mut [u8], at: usize, number: u64, record_number: u64) -> usize
+    requires { ⌜ at + 50 ≤ length (now out) ⌝ }
+    ensures { λ r. ⌜ now (out .exit) ≡ sets (now (out .entry)) at (refusedLine (refusal number record_number)) ⌝ }
+    ensures { λ r. ⌜ r ≡ at + length (refusedLine (refusal number record_number)) ⌝ }
+    ensures { λ r. ⌜ r ≤ at + 50 ⌝ }
+{
+    let numbers = put_word(out, at, b"refused");
+    let records = put_spaced(out, numbers, number);
+    let end = put_spaced(out, records, record_number);
+    put_byte(out, end, b'\n')
+}
+
+// The line of an accepted file: at most 30 bytes.
+pub fn put_accepted(out: &mut [u8], at: usize, total: u64) -> usize
+    requires { ⌜ at + 30 ≤ length (now out) ⌝ }
+    ensures { λ r. ⌜ now (out .exit) ≡ sets (now (out .entry)) at (acceptedLine total) ⌝ }
+    ensures { λ r. ⌜ r ≡ at + length (acceptedLine total) ⌝ }
+    ensures { λ r. ⌜ r ≤ at + 30 ⌝ }
+{
+    let totals = put_word(out, at, b"accepted");
+    let end = put_spaced(out, totals, total);
+    put_byte(out, end, b'\n')
+}
