@@ -328,13 +328,15 @@ fn form_number(form: usize) -> usize
 pub fn row_of(code: u8, form: usize) -> Row
     ensures { λ r. ⌜ r ≡ codeRow (rowOf (kindOf code) form) ⌝ }
 {
+    // Each use of a constant array copies it: one use.
+    let rows = ROWS;
     let at = row_number(code, form) * 6;
     Row {
-        list: ROWS[at],
-        a: ROWS[at + 1],
-        b: ROWS[at + 2],
-        p: ROWS[at + 3],
-        q: ROWS[at + 4],
-        r: ROWS[at + 5],
+        list: rows[at],
+        a: rows[at + 1],
+        b: rows[at + 2],
+        p: rows[at + 3],
+        q: rows[at + 4],
+        r: rows[at + 5],
     }
 }

@@ -34,38 +34,38 @@ row-number-requires c κs = search needs
 mul-at : tie.Need-mul-at
 mul-at c = search needs
 
-array-read-t8 : tie.Need-array-read-t8
-array-read-t8 c = search needs
+array-read-t9 : tie.Need-array-read-t9
+array-read-t9 c = search needs
 
-add-t4 : tie.Need-add-t4
-add-t4 c = search needs
+add-t6 : tie.Need-add-t6
+add-t6 c = search needs
 
 array-read-t12 : tie.Need-array-read-t12
 array-read-t12 c = search needs
 
-add-t14 : tie.Need-add-t14
-add-t14 c = search needs
+add-t13 : tie.Need-add-t13
+add-t13 c = search needs
 
-array-read-t17 : tie.Need-array-read-t17
-array-read-t17 c = search needs
+array-read-t16 : tie.Need-array-read-t16
+array-read-t16 c = search needs
 
-add-t19 : tie.Need-add-t19
-add-t19 c = search needs
+add-t17 : tie.Need-add-t17
+add-t17 c = search needs
 
-array-read-t22 : tie.Need-array-read-t22
-array-read-t22 c = search needs
+array-read-t20 : tie.Need-array-read-t20
+array-read-t20 c = search needs
 
-add-t24 : tie.Need-add-t24
-add-t24 c = search needs
+add-t21 : tie.Need-add-t21
+add-t21 c = search needs
 
-array-read-t27 : tie.Need-array-read-t27
-array-read-t27 c = search needs
+array-read-t24 : tie.Need-array-read-t24
+array-read-t24 c = search needs
 
-add-t29 : tie.Need-add-t29
-add-t29 c = search needs
+add-t25 : tie.Need-add-t25
+add-t25 c = search needs
 
-array-read-t32 : tie.Need-array-read-t32
-array-read-t32 c = search needs
+array-read-t28 : tie.Need-array-read-t28
+array-read-t28 c = search needs
 
 returns : tie.Need-returns
 unfolding kindOf tableRow
@@ -77,15 +77,15 @@ row-of-spec =
     (tie.spec
     row-number-requires
     mul-at
-    array-read-t8
-    add-t4
+    array-read-t9
+    add-t6
     array-read-t12
-    add-t14
-    array-read-t17
-    add-t19
-    array-read-t22
-    add-t24
-    array-read-t27
-    add-t29
-    array-read-t32
+    add-t13
+    array-read-t16
+    add-t17
+    array-read-t20
+    add-t21
+    array-read-t24
+    add-t25
+    array-read-t28
     returns)
