@@ -8,6 +8,7 @@ use lib.IntN.{ℤ, pos, negsuc}
 use Rattle.lists.specs.Lists.{concatMap}
 use Rattle.spec.specs.Record.{decoded}
 use Rattle.spec.specs.Refusal.{Refused, Answer, refused, accepted}
+use Rattle.spec.specs.Shape.{Shape}
 use Rattle.compose.specs.Tuples.{Engine}
 use Rattle.evaluate.specs.Verdict.{Verdict, passed}
 use Rattle.classifier.specs.Count.{verdicts, Counts, countAnswer}
@@ -72,9 +73,14 @@ refusedLine r = refusedWord ++ (spaced (decimal (r .number)) ++ (spaced (decimal
 abbrev pub acceptedWord : List ℕ
 acceptedWord = 97 ∷ 99 ∷ 99 ∷ 101 ∷ 112 ∷ 116 ∷ 101 ∷ 100 ∷ []
 
--- accepted, total: what is printed for a file that is only judged.
+-- accepted, total.
 unfoldable pub acceptedLine : ℕ → List ℕ
 acceptedLine total = acceptedWord ++ (spaced (decimal total) ++ newline)
+
+-- The line for what judging a file answers.
+abbrev pub answerLine : Answer Refused Shape → List ℕ
+answerLine (refused r) = refusedLine r
+answerLine (accepted shape) = acceptedLine (shape .total)
 
 abbrev pub listingOf : Answer Refused Counts → List Verdict → List ℕ
 listingOf (refused r) vs = refusedLine r

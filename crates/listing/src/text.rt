@@ -1,10 +1,13 @@
 // Text put into a lent buffer from `at` on. Each call gives the place after what it put there.
+use spec::validate::Validation;
 ghost use mathlib.Core.Path.{_≡_};
 ghost use mathlib.Core.List.{[], _∷_};
 ghost use Prim.Native.Nat.{_+_, _≤_};
-ghost use lib.ListN.{length};
+ghost use lib.ListN.{length, take};
 ghost use lib.Seq.{sets};
-ghost use Rattle.listing.specs.Text.{decimal, spaced, refusal, refusedLine, acceptedLine};
+ghost use Rattle.io.specs.Counts.{Counts};
+ghost use Rattle.spec.specs.Code.{asAnswer};
+ghost use Rattle.listing.specs.Text.{decimal, spaced, refusal, refusedLine, acceptedLine, answerLine};
 
 pub fn put_byte(out: &mut [u8], at: usize, byte: u8) -> usize
     requires { ⌜ at + 1 ≤ length (now out) ⌝ }
@@ -74,4 +77,17 @@ pub fn put_accepted(out: &mut [u8], at: usize, total: u64) -> usize
     let totals = put_word(out, at, b"accepted");
     let end = put_spaced(out, totals, total);
     put_byte(out, end, b'\n')
+}
+
+// The line for what `validate` answered, at the start of `text`; how many bytes.
+pub fn put_answer(text: &mut [u8; 64], judged: Validation) -> usize
+    ensures { λ r. ⌜ Counts r (now (text .exit)) ⌝ }
+    ensures { λ r. ⌜ take r (now (text .exit)) ≡ answerLine (asAnswer judged) ⌝ }
+{
+    match judged {
+        Validation::Accepted(shape) => put_accepted(text, 0, shape.total as u64),
+        Validation::Refused(refusal) => {
+            put_refused(text, 0, refusal.number as u64, refusal.record as u64)
+        }
+    }
 }

@@ -1,10 +1,8 @@
 // Judges the rules file on standard input, and prints `accepted` and its total, or `refused`, the number and the record.
 use libc::STDOUT_FILENO;
-use listing::text::put_accepted;
-use listing::text::put_refused;
+use listing::text::put_answer;
 use program::ROOM;
 use program::read_input;
-use spec::validate::Validation;
 use spec::validate::validate;
 ghost use mathlib.Core.Path.{_≡_};
 ghost use lib.ListN.{length, take};
@@ -16,13 +14,7 @@ fn answer(file: &[u8], text: &mut [u8; 64]) -> usize
     ensures { λ r. ⌜ Counts r (now (text .exit)) ⌝ }
     ensures { λ r. ⌜ take r (now (text .exit)) ≡ printed (now (file .entry)) ⌝ }
 {
-    let judged = validate(file);
-    match judged {
-        Validation::Accepted(shape) => put_accepted(text, 0, shape.total as u64),
-        Validation::Refused(refusal) => {
-            put_refused(text, 0, refusal.number as u64, refusal.record as u64)
-        }
-    }
+    put_answer(text, validate(file))
 }
 
 fn main() {
