@@ -83,6 +83,7 @@ pub fn put_accepted(out: &mut [u8], at: usize, total: u64) -> usize
 pub fn put_answer(text: &mut [u8; 64], judged: Validation) -> usize
     ensures { λ r. ⌜ Counts r (now (text .exit)) ⌝ }
     ensures { λ r. ⌜ take r (now (text .exit)) ≡ answerLine (asAnswer judged) ⌝ }
+    ensures { λ r. ⌜ now (text .exit) ≡ sets (now (text .entry)) 0 (answerLine (asAnswer judged)) ⌝ }
 {
     match judged {
         Validation::Accepted(shape) => put_accepted(text, 0, shape.total as u64),

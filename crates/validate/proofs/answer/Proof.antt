@@ -14,7 +14,7 @@ put-answer-requires c κs = search needs
 
 returns : tie.Need-returns
 unfolding printed
-returns c = (c .put-answer .ensures .0, c .put-answer .ensures .1 ∙ ap answerLine (c .before .validate .ensures))
+returns c = (c .put-answer .ensures .0, c .put-answer .ensures .1 .0 ∙ ap answerLine (c .before .validate .ensures))
 
 pub answer-spec : {M : Type 1} → statement M
 answer-spec = tie.close (tie.spec validate-requires put-answer-requires returns)

@@ -3,6 +3,7 @@ use mathlib.Core.Path.{_∙_, _≡_, ap, sym}
 use native.Mathlib.Omega.{arith}
 use borrow.Author.Needs.{needs}
 use lib.ListN.{length}
+use lib.Seq.{sets}
 use Rattle.spec.specs.Code.{asAnswer}
 use Rattle.spec.specs.declared.validate.Validation.{Validation}
 use Rattle.spec.specs.declared.validate.Validation.the-variants.{Refused}
@@ -33,7 +34,8 @@ returns c =
     let args = c .before .before .before .before .before .args in
     let room : length (args .text .now) ≡ 64 = search needs in
     let stands = put-first (args .text .now) (put .last .0) (acceptedLine (shape .0 .0 .total)) (put .result) (put .ensures .0) (put .ensures .1 .0) (omega (arith, put .ensures .1 .1)) in
-    (stands .0, stands .1 ∙ ap (λ (v : Validation). answerLine (asAnswer v)) (sym (shape .1)))
+    let same = ap (λ (v : Validation). answerLine (asAnswer v)) (sym (shape .1)) in
+    (stands .0, (stands .1 ∙ same, put .ensures .0 ∙ ap (sets (args .text .now) 0) same))
 
 returns-2 : tie.Need-returns-2
 returns-2 c =
@@ -43,7 +45,8 @@ returns-2 c =
     let room : length (args .text .now) ≡ 64 = search needs in
     let line = answerLine (asAnswer (Refused (refusal .0 .0))) in
     let stands = put-first (args .text .now) (put .last .0) line (put .result) (put .ensures .0) (put .ensures .1 .0) (omega (arith, put .ensures .1 .1)) in
-    (stands .0, stands .1 ∙ ap (λ (v : Validation). answerLine (asAnswer v)) (sym (refusal .1)))
+    let same = ap (λ (v : Validation). answerLine (asAnswer v)) (sym (refusal .1)) in
+    (stands .0, (stands .1 ∙ same, put .ensures .0 ∙ ap (sets (args .text .now) 0) same))
 
 pub put-answer-spec : {M : Type 1} → statement M
 put-answer-spec =
