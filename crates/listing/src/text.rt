@@ -9,7 +9,7 @@ ghost use Rattle.io.specs.Counts.{Counts};
 ghost use Rattle.spec.specs.Code.{asAnswer};
 ghost use Rattle.listing.specs.Text.{decimal, spaced, refusal, refusedLine, acceptedLine, answerLine};
 
-pub fn put_byte(out: &mut [u8], at: usize, byte: u8) -> usize
+fn put_byte(out: &mut [u8], at: usize, byte: u8) -> usize
     requires { ⌜ at + 1 ≤ length (now out) ⌝ }
     ensures { λ r. ⌜ now (out .exit) ≡ sets (now (out .entry)) at (byte ∷ []) ⌝ }
     ensures { λ r. ⌜ r ≡ at + 1 ⌝ }
@@ -18,7 +18,7 @@ pub fn put_byte(out: &mut [u8], at: usize, byte: u8) -> usize
     at + 1
 }
 
-pub fn put_word(out: &mut [u8], at: usize, word: &[u8]) -> usize
+fn put_word(out: &mut [u8], at: usize, word: &[u8]) -> usize
     requires { ⌜ at + length (now word) ≤ length (now out) ⌝ }
     ensures { λ r. ⌜ now (out .exit) ≡ sets (now (out .entry)) at (now (word .entry)) ⌝ }
     ensures { λ r. ⌜ r ≡ at + length (now (word .entry)) ⌝ }
@@ -32,7 +32,7 @@ pub fn put_word(out: &mut [u8], at: usize, word: &[u8]) -> usize
 }
 
 // A number has at most 20 digits.
-pub fn put_number(out: &mut [u8], at: usize, number: u64) -> usize
+fn put_number(out: &mut [u8], at: usize, number: u64) -> usize
     requires { ⌜ at + 20 ≤ length (now out) ⌝ }
     ensures { λ r. ⌜ now (out .exit) ≡ sets (now (out .entry)) at (decimal number) ⌝ }
     ensures { λ r. ⌜ r ≡ at + length (decimal number) ⌝ }
@@ -44,7 +44,7 @@ pub fn put_number(out: &mut [u8], at: usize, number: u64) -> usize
 }
 
 // A space, then the number.
-pub fn put_spaced(out: &mut [u8], at: usize, number: u64) -> usize
+fn put_spaced(out: &mut [u8], at: usize, number: u64) -> usize
     requires { ⌜ at + 21 ≤ length (now out) ⌝ }
     ensures { λ r. ⌜ now (out .exit) ≡ sets (now (out .entry)) at (spaced (decimal number)) ⌝ }
     ensures { λ r. ⌜ r ≡ at + length (spaced (decimal number)) ⌝ }
@@ -55,7 +55,7 @@ pub fn put_spaced(out: &mut [u8], at: usize, number: u64) -> usize
 }
 
 // The line of a refusal: at most 50 bytes.
-pub fn put_refused(out: &mut [u8], at: usize, number: u64, record_number: u64) -> usize
+fn put_refused(out: &mut [u8], at: usize, number: u64, record_number: u64) -> usize
     requires { ⌜ at + 50 ≤ length (now out) ⌝ }
     ensures { λ r. ⌜ now (out .exit) ≡ sets (now (out .entry)) at (refusedLine (refusal number record_number)) ⌝ }
     ensures { λ r. ⌜ r ≡ at + length (refusedLine (refusal number record_number)) ⌝ }
@@ -68,7 +68,7 @@ pub fn put_refused(out: &mut [u8], at: usize, number: u64, record_number: u64) -
 }
 
 // The line of an accepted file: at most 30 bytes.
-pub fn put_accepted(out: &mut [u8], at: usize, total: u64) -> usize
+fn put_accepted(out: &mut [u8], at: usize, total: u64) -> usize
     requires { ⌜ at + 30 ≤ length (now out) ⌝ }
     ensures { λ r. ⌜ now (out .exit) ≡ sets (now (out .entry)) at (acceptedLine total) ⌝ }
     ensures { λ r. ⌜ r ≡ at + length (acceptedLine total) ⌝ }

@@ -38,7 +38,7 @@ fn first_multiple(step: i64, p: i64) -> i64
 }
 
 // The multiples of the step r, 1 where it is 0, in p..q.
-pub fn multiples(p: i64, q: i64, r: i64) -> Rise
+fn multiples(p: i64, q: i64, r: i64) -> Rise
     requires { ⌜ InScale p q r ⌝ }
     ensures { λ d. ⌜ IsRise d (stepOf (natAbs r)) p q ⌝ }
 {
@@ -108,7 +108,7 @@ pub fn allows_value(h: Record, values: &[u8], v: Value) -> bool
 }
 
 // The first record after head that is no member.
-pub fn members_end(file: &[u8], head: usize) -> usize
+fn members_end(file: &[u8], head: usize) -> usize
     requires { ⌜ head < length (now file) / 32 ⌝ }
     ensures { λ r. ⌜ r ≡ head + 1 + length (memberRun (drop (suc head) (recordsOf (now (file .entry))))) ⌝ }
 {
