@@ -13,7 +13,7 @@ use Rattle.lists.proofs.Range.{in-range}
 use Rattle.lists.proofs.Tests.{eqb-no, leb-ext, ltb-no, ltb-yes, or-split}
 use Rattle.spec.specs.Code.{InScale, asRecord, blankIn, classOf, codeRow, codeUse, dueCode, isFieldClass, lengthBy, namedCode, overfullIn, scaledCode, strayCode, unknownIn}
 use Rattle.spec.specs.Domain.{multiples, stepOf}
-use Rattle.spec.specs.Kind.{Kind, Row, Use, constraint, field, fieldRow, isNames, isNatural, isOwn, isUnused, kindOf, member, names, natural, number, own, projector, rowOf, unknown, unused}
+use Rattle.spec.specs.Kind.{Kind, Use, constraint, field, fieldRow, isNames, isNatural, isOwn, isUnused, kindOf, member, names, natural, number, own, projector, rowOf, unknown, unused}
 use Rattle.spec.specs.Record.{Record, recordsOf}
 use Rattle.spec.specs.Refusal.{Context, badOffset, blankBy, blankField, listFault, negative, offScale, onScale, overfull, strayBy, unknownKind}
 use Rattle.spec.proofs.Domain.{length-multiples}

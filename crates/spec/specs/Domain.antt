@@ -6,7 +6,7 @@ use lib.ListN.{length}
 use lib.Dec.{eqb, ltb}
 use lib.IntN.{ℤ, pos, negsuc, negℤ, natAbs, _+ℤ_, _-ℤ_}
 use lib.Signed.{leZ}
-use Rattle.lists.specs.Lists.{any, isEmpty, product}
+use Rattle.lists.specs.Lists.{any, product}
 use Rattle.lists.specs.Integers.{elemZ}
 use Rattle.spec.specs.Spec.{FieldSpec, Free, Ranged, Listed, Spec}
 

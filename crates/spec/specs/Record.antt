@@ -9,7 +9,7 @@ use lib.IntN.{ℤ, pos, negsuc, natAbs}
 use lib.ListN.{length, getD, take, drop}
 use Rattle.lists.specs.Lists.{concatMap}
 use Rattle.lists.specs.Integers.{littleEndian, signed64}
-use Rattle.spec.specs.Spec.{FieldSpec, Free, Ranged, Listed, Test, Range, Even, Lt, Gt, Le, Ge, Oneof, Bitmask, Entry, Pair, Key, FieldAssignment, Assign, Enabling, byMask, bySet, ConstraintSpec, Check, Eq, Neq, Cross, Enable, AxisSpec, Axis, ProjectorSpec, Sum, Identity, Parity, Decompose, Spec}
+use Rattle.spec.specs.Spec.{FieldSpec, Free, Ranged, Listed, Range, Even, Lt, Gt, Le, Ge, Oneof, Bitmask, Entry, Pair, Key, FieldAssignment, Assign, byMask, bySet, ConstraintSpec, Check, Eq, Neq, Cross, Enable, AxisSpec, Axis, ProjectorSpec, Sum, Identity, Parity, Decompose, Spec}
 use Rattle.spec.specs.Kind.{ConstraintKind, range, even, eq, neq, lt, gt, le, ge, oneof, cross, enableMask, bitmask, enableSet, ProjectorKind, sum, identity, parity, decompose, Kind, field, unknown, constraint, projector, member, kindOf, isMember}
 
 -- A record: kind, a, b, five bytes that no kind uses, then p, q, r.

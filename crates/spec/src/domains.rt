@@ -7,15 +7,14 @@ use crate::records::code_at;
 use crate::records::p_at;
 ghost use mathlib.Core.Path.{_≡_};
 ghost use mathlib.Core.Bool.{true, false};
-ghost use Prim.Native.Nat.{suc, _+_, _*_, _/_, _≤_, _<_};
-ghost use lib.IntN.{pos, negsuc, natAbs, _+ℤ_};
+ghost use Prim.Native.Nat.{suc, _+_, _-_, _*_, _/_, _≤_, _<_};
+ghost use lib.IntN.{pos, natAbs, _+ℤ_};
 ghost use lib.Signed.{leZ};
 ghost use lib.ListN.{length, getD, take, drop};
-ghost use Rattle.lists.specs.Integers.{eqZ, elemZ};
-ghost use Rattle.spec.specs.Domain.{firstMultiple, howMany, stepOf, onStep, domain, allows};
-ghost use Rattle.spec.specs.Record.{fieldBy, recordsOf, recordAt, memberRun};
+ghost use Rattle.lists.specs.Integers.{elemZ};
+ghost use Rattle.spec.specs.Domain.{firstMultiple, stepOf, onStep, domain, allows};
+ghost use Rattle.spec.specs.Record.{fieldBy, recordsOf, memberRun};
 ghost use Rattle.spec.specs.Refusal.{onScale, negative};
-ghost use Prim.Native.Nat.{_-_};
 ghost use Rattle.spec.specs.Code.{asRecord, psOf, domainLength, InScale, InRise, IsRise};
 
 // first, first + step, ..: len of them.

@@ -15,13 +15,11 @@ use crate::kinds::class_of;
 use crate::kinds::row_of;
 use crate::records::Record;
 ghost use mathlib.Core.Path.{_≡_};
-ghost use mathlib.Core.Bool.{true, false, _&&_, not};
+ghost use mathlib.Core.Bool.{true, false};
 ghost use Prim.Native.Nat.{_<_};
-ghost use lib.Dec.{eqb};
-ghost use Rattle.lists.specs.Lists.{isEmpty};
-ghost use Rattle.spec.specs.Kind.{kindOf, rowOf, isMember};
+ghost use Rattle.spec.specs.Kind.{kindOf, isMember};
 ghost use Rattle.spec.specs.Record.{recordsOf};
-ghost use Rattle.spec.specs.Refusal.{offScale, onScale, blankField, headTests, memberTests, belongs, badPacking, listFault, firstTrue, misfiledNumber};
+ghost use Rattle.spec.specs.Refusal.{offScale, blankField, headTests, memberTests, belongs, badPacking, listFault, firstTrue, misfiledNumber};
 ghost use Rattle.spec.specs.Code.{asRecord, asContext};
 
 // 8: the domain of a field without a list is empty.

@@ -10,8 +10,6 @@ use crate::kinds::row_of;
 use crate::kinds::section_of;
 use crate::records::Record;
 ghost use mathlib.Core.Path.{_≡_};
-ghost use mathlib.Core.Bool.{true, false};
-ghost use Prim.Native.Nat.{_≤_, _<_};
 ghost use lib.IntN.{pos};
 ghost use lib.Signed.{ltZ};
 ghost use Rattle.lists.specs.Integers.{eqZ};

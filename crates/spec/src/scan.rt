@@ -13,7 +13,7 @@ use crate::records::Record;
 use crate::records::record_at;
 ghost use mathlib.Core.Path.{_≡_};
 ghost use mathlib.Core.Bool.{true, false};
-ghost use Prim.Native.Nat.{_+_, _/_, _≤_, _<_};
+ghost use Prim.Native.Nat.{_/_, _≤_, _<_};
 ghost use lib.ListN.{length};
 ghost use Rattle.spec.specs.Kind.{kindOf, isMember};
 ghost use Rattle.spec.specs.Record.{recordsOf, recordAt};

@@ -3,7 +3,6 @@ use crate::domains::domain_len;
 use crate::domains::members;
 use crate::kinds::is_member;
 use crate::kinds::section_of;
-use crate::records::Record;
 use crate::records::code_at;
 use crate::records::record_at;
 ghost use mathlib.Core.Path.{_≡_};

@@ -5,7 +5,7 @@ use program::ROOM;
 use program::read_input;
 use spec::validate::validate;
 ghost use mathlib.Core.Path.{_≡_};
-ghost use lib.ListN.{length, take};
+ghost use lib.ListN.{take};
 ghost use Rattle.io.specs.Counts.{Counts};
 ghost use Rattle.validate.specs.Printed.{printed};
 

@@ -1,7 +1,6 @@
 -- `spec::faults::belongs_to` meets its contract: the two rows of the table name the same list.
 use mathlib.Core.Bool.{Bool, _&&_}
 use mathlib.Core.Path.{sym, ap, ap₂, _∙_}
-use Prim.Native.Nat.{ℕ}
 use lib.Dec.{eqb}
 use Rattle.spec.specs.Kind.{kindOf, rowOf}
 use Rattle.spec.specs.declared.kinds.Row.{Row}

@@ -1,5 +1,4 @@
 -- `spec::judge::is_zero` meets its contract: equal bits are equal numbers.
-use borrow.Author.Needs.{sfits-of}
 use Rattle.lists.proofs.Words.{eq-bits, zero-fits}
 use lib.IntN.{pos}
 use Rattle.spec.proofs.judge.is_zero.Statement.{statement}

@@ -1,5 +1,5 @@
 -- `spec::judge::on_scale` meets its contract.
-use mathlib.Core.Path.{_∙_, ap, ap₂}
+use mathlib.Core.Path.{_∙_, ap}
 use mathlib.Core.Bool.{_&&_}
 use lib.IntN.{ℤ, pos, negsuc}
 use lib.Signed.{leZ}

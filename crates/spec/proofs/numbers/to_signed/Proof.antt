@@ -1,7 +1,7 @@
 -- `spec::numbers::to_signed` meets its contract: below 2^63 the number itself, else what is left to 2^64, negated.
 use borrow.Author.Needs.{needs}
-use mathlib.Core.Path.{_≡_, sym, ap, _∙_, subst}
-use Prim.Native.Nat.{ℕ, _-_, _<_, _^_}
+use mathlib.Core.Path.{_≡_, sym, ap, _∙_}
+use Prim.Native.Nat.{_-_, _^_}
 use native.Mathlib.Omega.{arith}
 use lib.IntN.{ℤ, pos, negsuc, _-ℤ_}
 use mir.Syntax.{w64}

@@ -1,5 +1,4 @@
 -- `spec::records::a_at` meets its contract.
-use mathlib.Core.Path.{_∙_}
 use Rattle.spec.proofs.Fields.{a-of}
 use borrow.Author.Needs.{needs}
 use Rattle.spec.proofs.records.a_at.Statement.{statement}

@@ -1,5 +1,4 @@
 -- `spec::records::b_at` meets its contract.
-use mathlib.Core.Path.{_∙_}
 use Rattle.spec.proofs.Fields.{b-of}
 use borrow.Author.Needs.{needs}
 use Rattle.spec.proofs.records.b_at.Statement.{statement}

@@ -2,7 +2,7 @@
 use mathlib.Core.Path.{_∙_, _≡_, ap, refl, sym}
 use native.Mathlib.Omega.{arith}
 use borrow.Author.Needs.{needs}
-use Rattle.spec.specs.Code.{asContext, classOf}
+use Rattle.spec.specs.Code.{asContext}
 use Rattle.spec.specs.Kind.{kindOf}
 use Rattle.spec.specs.Refusal.{Context, afterHead}
 use Rattle.spec.specs.declared.kinds.Class.{Class}
