@@ -11,7 +11,7 @@ use Rattle.spec.specs.Kind.{kindOf}
 use Rattle.spec.specs.Record.{recordOf, partsOf, recordsOf, specOf, decoded}
 use Rattle.spec.specs.Refusal.{Refused, recordsFault, fileFault}
 use Rattle.compose.specs.Force.{forcingOrder, force}
-use Rattle.compose.specs.Maps.{allowedLists, ring, fieldOrder, barren}
+use Rattle.compose.specs.Maps.{allowedLists, cyclic, fieldOrder, childless}
 use Rattle.compose.specs.Tuples.{listsOf, orderOf, mapOf, mapsHold, emitted}
 use Rattle.evaluate.specs.Verdict.{Verdict}
 use Rattle.classifier.specs.Count.{verdictOf, verdicts, passedCount, countsOf, scratchFor, engineFault, countFault, countAnswer}
@@ -170,7 +170,7 @@ unfolding decoded specOf recordsOf partsOf recordOf kindOf
 decoding = tt
 
 unfoldable pub judging : Unit {0}
-unfolding decoding fileFault recordsFault tooMany total countFault scratchFor domains engineFault ring barren allowedLists
+unfolding decoding fileFault recordsFault tooMany total countFault scratchFor domains engineFault cyclic childless allowedLists
 judging = tt
 
 unfoldable pub emitting : Unit {0}

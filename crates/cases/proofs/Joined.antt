@@ -14,40 +14,40 @@ use Rattle.evaluate.specs.Verdict.{passed}
 use Rattle.classifier.specs.Count.{Accepts, countsOf, verdicts}
 use Rattle.join.specs.Join.{joinBytes, joinFault}
 use Rattle.join.proofs.Multiplies.{JoinMultiplies, join-multiplies, nth}
-use Rattle.cases.proofs.Bench.{bench}
+use Rattle.cases.proofs.Sample.{sample}
 use Rattle.cases.proofs.Build.{assign, counting, cross, decoding, enableSet, evaluating, even, fails, file, joining, judging, listed, pair, passes, ranged, sum, value}
 
 -- ---- the bench file joined with itself
-bench-accepted : (engine : Engine) → Accepts engine bench
+sample-accepted : (engine : Engine) → Accepts engine sample
 unfolding judging
-bench-accepted structural = refl
-bench-accepted exhaustive = refl
+sample-accepted structural = refl
+sample-accepted exhaustive = refl
 
-bench-has-fields : 0 < length (decoded bench .fields)
+sample-has-fields : 0 < length (decoded sample .fields)
 unfolding decoding
-bench-has-fields = lit< tt
+sample-has-fields = lit< tt
 
 -- 21 records.
-bench-joins : joinFault 672 bench bench ≡ none
+sample-joins : joinFault 672 sample sample ≡ none
 unfolding joining
-bench-joins = refl
+sample-joins = refl
 
-bench-twice : (engine : Engine) → JoinMultiplies engine bench bench
-bench-twice engine = join-multiplies engine bench bench 672 (bench-accepted engine) (bench-accepted engine) bench-has-fields bench-has-fields bench-joins
+sample-twice : (engine : Engine) → JoinMultiplies engine sample sample
+sample-twice engine = join-multiplies engine sample sample 672 (sample-accepted engine) (sample-accepted engine) sample-has-fields sample-has-fields sample-joins
 
-bench-counts : (countsOf structural (decoded bench) .total ≡ 9) × (countsOf structural (decoded bench) .emitted ≡ 7) × (countsOf structural (decoded bench) .passed ≡ 5)
+sample-counts : (countsOf structural (decoded sample) .total ≡ 9) × (countsOf structural (decoded sample) .emitted ≡ 7) × (countsOf structural (decoded sample) .passed ≡ 5)
 unfolding counting
-bench-counts = (refl, refl, refl)
+sample-counts = (refl, refl, refl)
 
 -- 9 × 9, 7 × 7 and 5 × 5, without listing the joined file.
-bench-twice-total : countsOf structural (decoded (joinBytes bench bench)) .total ≡ 81
-bench-twice-total = bench-twice structural .total ∙ ap₂ _*_ (bench-counts .0) (bench-counts .0)
+sample-twice-total : countsOf structural (decoded (joinBytes sample sample)) .total ≡ 81
+sample-twice-total = sample-twice structural .total ∙ ap₂ _*_ (sample-counts .0) (sample-counts .0)
 
-bench-twice-emitted : countsOf structural (decoded (joinBytes bench bench)) .emitted ≡ 49
-bench-twice-emitted = bench-twice structural .emitted ∙ ap₂ _*_ (bench-counts .1) (bench-counts .1)
+sample-twice-emitted : countsOf structural (decoded (joinBytes sample sample)) .emitted ≡ 49
+sample-twice-emitted = sample-twice structural .emitted ∙ ap₂ _*_ (sample-counts .1) (sample-counts .1)
 
-bench-twice-passed : countsOf structural (decoded (joinBytes bench bench)) .passed ≡ 25
-bench-twice-passed = bench-twice structural .passed ∙ ap₂ _*_ (bench-counts .2) (bench-counts .2)
+sample-twice-passed : countsOf structural (decoded (joinBytes sample sample)) .passed ≡ 25
+sample-twice-passed = sample-twice structural .passed ∙ ap₂ _*_ (sample-counts .2) (sample-counts .2)
 
 -- ---- a second file with a map against the field order, forcing and a failing constraint
 -- Field 1 lets field 0 have 0 under 3 and 1 under 4; where field 0 is 1, field 1 becomes 4; field 1 is even.
@@ -73,20 +73,20 @@ other-verdicts : verdicts structural (decoded other) ≡ fails 5 (pos 0 ∷ pos 
 unfolding evaluating
 other-verdicts = refl
 
-bench-joins-other : joinFault 672 bench other ≡ none
+sample-joins-other : joinFault 672 sample other ≡ none
 unfolding joining
-bench-joins-other = refl
+sample-joins-other = refl
 
-bench-and-other : (engine : Engine) → JoinMultiplies engine bench other
-bench-and-other engine = join-multiplies engine bench other 672 (bench-accepted engine) (other-accepted engine) bench-has-fields other-has-fields bench-joins-other
+sample-and-other : (engine : Engine) → JoinMultiplies engine sample other
+sample-and-other engine = join-multiplies engine sample other 672 (sample-accepted engine) (other-accepted engine) sample-has-fields other-has-fields sample-joins-other
 
 -- Verdict (4 − 1) × 2 + 1 comes from the bench file's fourth, place 5, and the other's first, place 5: the first file's constraint counts, 5 + 2.
-seventh-place : nth (verdicts structural (decoded (joinBytes bench other))) 7 .place ≡ 7
+seventh-place : nth (verdicts structural (decoded (joinBytes sample other))) 7 .place ≡ 7
 unfolding evaluating joining
-seventh-place = bench-and-other structural .each 4 1 (lit< tt, lit< tt) (lit< tt, lit< tt) .place .first-constraint (lit< tt) (λ a. let h = a .1 in absurd (omega arith))
+seventh-place = sample-and-other structural .each 4 1 (lit< tt, lit< tt) (lit< tt, lit< tt) .place .first-constraint (lit< tt) (λ a. let h = a .1 in absurd (omega arith))
 
 -- The joined listing's first four verdicts: the bench file's first and second, each with the other's two.
-joined-front : take 4 (verdicts structural (decoded (joinBytes bench other))) ≡
+joined-front : take 4 (verdicts structural (decoded (joinBytes sample other))) ≡
     fails 10 (pos 0 ∷ pos 0 ∷ pos 0 ∷ pos 3 ∷ [])
     ∷ passes (some (pos 5)) (pos 0 ∷ pos 0 ∷ pos 1 ∷ pos 4 ∷ [])
     ∷ fails 10 (pos 0 ∷ pos 1 ∷ pos 0 ∷ pos 3 ∷ [])

@@ -9,7 +9,7 @@ use Rattle.lists.specs.Lists.{concatMap, upto}
 use Rattle.spec.specs.Refusal.{refused, accepted}
 use Rattle.join.specs.Join.{Which, first, second, joined, JoinRefused, joinFault, joinAnswer, joinOutput}
 use Rattle.cases.proofs.Build.{file, noRange, ranged, even, oneof, item, sum, identity, only, bit, joining}
-use Rattle.cases.proofs.Bench.{bench}
+use Rattle.cases.proofs.Sample.{sample}
 
 abbrev refusedFor : Which → (number at : ℕ) → JoinRefused
 refusedFor which number at = record { which = which; why = record { number = number; at = at } }
@@ -19,17 +19,17 @@ forJoined number = refusedFor joined number 0
 
 -- ---- answer and output
 -- The bench file has 11 records. Joined with itself it has 21, since the two sums become one: 672 bytes. The output may be longer.
-the-answer-is-the-joined-length : joinAnswer 674 bench bench ≡ accepted 672
+the-answer-is-the-joined-length : joinAnswer 674 sample sample ≡ accepted 672
 unfolding joining
 the-answer-is-the-joined-length = refl
 
-the-answer-is-the-refusal : joinAnswer 671 bench bench ≡ refused (forJoined 14)
+the-answer-is-the-refusal : joinAnswer 671 sample sample ≡ refused (forJoined 14)
 unfolding joining
 the-answer-is-the-refusal = refl
 
 -- Joined with itself it is refused 14; with a file without projector 4, and with an identity 16, for the second.
 a-refused-join-leaves-the-output :
-    map (λ other. joinOutput bench other (replicate 671 9)) (bench ∷ file (bit 0 ∷ []) ∷ file (bit 0 ∷ identity 0 ∷ []) ∷ []) ≡ replicate 3 (replicate 671 9)
+    map (λ other. joinOutput sample other (replicate 671 9)) (sample ∷ file (bit 0 ∷ []) ∷ file (bit 0 ∷ identity 0 ∷ []) ∷ []) ≡ replicate 3 (replicate 671 9)
 unfolding joining
 a-refused-join-leaves-the-output = refl
 

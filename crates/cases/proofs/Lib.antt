@@ -1,6 +1,6 @@
 pub mod Build
 pub mod Starred
-pub mod Bench
+pub mod Sample
 pub mod Traps
 pub mod Values
 pub mod Judging

@@ -87,16 +87,16 @@ unfolding emitting
 map-2-to-0-emits-in-that-order = refl
 
 -- Maps 0→1 and 1→0: 12; exhaustive accepts.
-abbrev pub ringed : List ℕ
-ringed = file (bit 0 ∷ bit 1 ∷ cross 0 1 ∷ pair (pos 1) (pos 1) ∷ cross 1 0 ∷ pair (pos 1) (pos 1) ∷ sum ∷ [])
+abbrev pub cycleFile : List ℕ
+cycleFile = file (bit 0 ∷ bit 1 ∷ cross 0 1 ∷ pair (pos 1) (pos 1) ∷ cross 1 0 ∷ pair (pos 1) (pos 1) ∷ sum ∷ [])
 
-two-maps-in-a-ring-are-12 : countFault structural 4 ringed ≡ refusal 12 0
+two-maps-in-a-cycle-are-12 : countFault structural 4 cycleFile ≡ refusal 12 0
 unfolding judging
-two-maps-in-a-ring-are-12 = refl
+two-maps-in-a-cycle-are-12 = refl
 
-exhaustive-accepts-the-ring : countFault exhaustive 4 ringed ≡ none
+exhaustive-accepts-the-cycle : countFault exhaustive 4 cycleFile ≡ none
 unfolding judging
-exhaustive-accepts-the-ring = refl
+exhaustive-accepts-the-cycle = refl
 
 -- Key 1 without pair, 1 allowed: 13.
 key-1-without-pair-is-13 : countFault structural 4 (file (bit 0 ∷ bit 1 ∷ cross 0 1 ∷ key (pos 1) ∷ sum ∷ [])) ≡ refusal 13 0

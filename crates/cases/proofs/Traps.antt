@@ -15,7 +15,7 @@ use Rattle.classifier.specs.Page.{beginning, afterTuple, pageFault, pageAnswer}
 use Rattle.join.specs.Join.{Which, first, second, JoinRefused, joinFault}
 use Rattle.listing.specs.Text.{listing}
 use Rattle.cases.proofs.Build.{minus, rec, file, lines, ranged, listed, value, range, even, eq, neq, lt, gt, le, ge, oneof, item, cross, pair, key, enableMask, disable, bitmask, enableSet, assign, sum, identity, parity, decompose, axis, only, bit, loneSum, refusal, passes, fails, judging, emitting, evaluating, counting, printing, paging, joining}
-use Rattle.cases.proofs.Starred.{ringed}
+use Rattle.cases.proofs.Starred.{cycleFile}
 
 -- ---- lists and maps
 -- Two maps 0→1: the last is kept, and lets 1 have 0 alone. The first, which lets 1 have 1 alone, is still a check.
@@ -239,15 +239,15 @@ a-filter-saves-no-scratch : countFault structural 1 (file (bit 0 ∷ oneof 0 ∷
 unfolding judging
 a-filter-saves-no-scratch = refl
 
-scratch-comes-before-the-ring : countFault structural 3 ringed ≡ refusal 11 0
+scratch-comes-before-the-cycle : countFault structural 3 cycleFile ≡ refusal 11 0
 unfolding judging
-scratch-comes-before-the-ring = refl
+scratch-comes-before-the-cycle = refl
 
 -- Maps 0→1 and 1→0, in both of which 1 is a key without pair.
-the-ring-comes-before-the-barren-key :
+the-cycle-comes-before-the-childless-key :
     countFault structural 4 (file (bit 0 ∷ bit 1 ∷ cross 0 1 ∷ key (pos 1) ∷ cross 1 0 ∷ key (pos 1) ∷ sum ∷ [])) ≡ refusal 12 0
 unfolding judging
-the-ring-comes-before-the-barren-key = refl
+the-cycle-comes-before-the-childless-key = refl
 
 -- ---- joining
 abbrev joinRefusal : Which → (number at : ℕ) → Option JoinRefused

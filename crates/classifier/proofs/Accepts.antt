@@ -12,7 +12,7 @@ use Rattle.spec.specs.Refusal.{fileFault, refuseIf}
 use Rattle.spec.specs.Spec.{Spec}
 use Rattle.spec.proofs.Accepted.{FileGood, file-good, good-file}
 use Rattle.spec.proofs.Refusals.{refuseIf-no, refuseIf-ok, ▷-left, ▷-none, ▷-right}
-use Rattle.compose.specs.Maps.{barren, ring}
+use Rattle.compose.specs.Maps.{childless, cyclic}
 use Rattle.compose.specs.Tuples.{Engine, exhaustive, structural}
 use Rattle.compose.proofs.Emitted.{unsound}
 use Rattle.classifier.specs.Count.{Accepts, countFault, engineFault, scratchFor}
@@ -20,12 +20,12 @@ use Rattle.classifier.specs.Count.{Accepts, countFault, engineFault, scr
 -- 12 and 13 are not given exactly when the specification is sound for the engine.
 sound-of : (e : Engine) (s : Spec) → engineFault e s ≡ none → unsound e s ≡ false
 unfolding engineFault
-sound-of structural s h = ap₂ _||_ (refuseIf-no (ring s) 11 (▷-left _ _ h)) (refuseIf-no (barren s) 12 (▷-right (refuseIf (ring s) 12) _ h))
+sound-of structural s h = ap₂ _||_ (refuseIf-no (cyclic s) 11 (▷-left _ _ h)) (refuseIf-no (childless s) 12 (▷-right (refuseIf (cyclic s) 12) _ h))
 sound-of exhaustive s h = refl
 
 of-sound : (e : Engine) (s : Spec) → unsound e s ≡ false → engineFault e s ≡ none
 unfolding engineFault
-of-sound structural s h = let p = or-split (ring s) (barren s) h in rw (p .0, p .1)
+of-sound structural s h = let p = or-split (cyclic s) (childless s) h in rw (p .0, p .1)
 of-sound exhaustive s h = refl
 
 pub record Accepted (e : Engine) (file : List ℕ) : Type 0 where

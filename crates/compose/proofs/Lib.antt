@@ -1,7 +1,7 @@
 pub mod Allowed
 pub mod Parents
 pub mod Last
-pub mod Ring
+pub mod Cycle
 pub mod Order
 pub mod Tuples
 pub mod Emitted

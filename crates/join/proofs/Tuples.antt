@@ -18,9 +18,9 @@ use Rattle.spec.specs.Domain.{domain, domains}
 use Rattle.spec.specs.Spec.{ConstraintSpec, Spec}
 use Rattle.spec.proofs.Named.{Named, width}
 use Rattle.registry.specs.Check.{crossAllows}
-use Rattle.compose.specs.Maps.{KeptMap, allowedLists, barren, barrenKey, barrenMap, climb, fieldOrder, isSome, kept, keptMap, listAt, parentIn, parentOf, placeFields, ring}
+use Rattle.compose.specs.Maps.{KeptMap, allowedLists, childless, childlessKey, childlessMap, climb, fieldOrder, isSome, kept, keptMap, listAt, parentIn, parentOf, placeFields, cyclic}
 use Rattle.compose.specs.Tuples.{Engine, emitted, exhaustive, listsOf, mapHolds, mapOf, mapsHold, orderOf, structural, tuples, values, zeros}
-use Rattle.compose.proofs.Emitted.{candidates, candidates-length, emitted-candidates, held, length-listsOf, orderOf-below, sound-ringless, unsound}
+use Rattle.compose.proofs.Emitted.{candidates, candidates-length, emitted-candidates, held, length-listsOf, orderOf-below, sound-acyclic, unsound}
 use Rattle.compose.proofs.Parents.{ParentBelow, climb-ends, climb-more, parent-below}
 use Rattle.join.specs.Join.{joinSpec, move}
 use Rattle.join.proofs.Maps.{allowedLists-join, kept-left, kept-right, moveKept, parent-left, parent-right}
@@ -66,11 +66,11 @@ values-length [] t h = refl
 values-length (l ∷ ls) [] h = absurd (omega arith)
 values-length (l ∷ ls) (i ∷ t) h = ap suc (values-length ls t (omega arith))
 
--- ---- ring and order
+-- ---- cycles and order
 module _ (s t : Spec) (wf : Named s) where
-  pub ring-join : ring s ≡ false → ring t ≡ false → ring (joinSpec s t) ≡ false
-  unfolding ring joinSpec
-  ring-join h k =
+  pub cyclic-join : cyclic s ≡ false → cyclic t ≡ false → cyclic (joinSpec s t) ≡ false
+  unfolding cyclic joinSpec
+  cyclic-join h k =
       ap (λ l. any (λ f. isSome (climb par (width (joinSpec s t)) (some f))) l) (fields-of-join s t)
       ∙ any-none (λ f. isSome (climb par (width (joinSpec s t)) (some f))) (All-append (upto-All n near) (All-mapped (λ f. n + f) (upto-All m far)))
     where
@@ -93,7 +93,7 @@ module _ (s t : Spec) (wf : Named s) where
           ∙ climb₂ n (parentOf (s .constraints)) (parentOf (t .constraints)) par (parent-left n (s .constraints) wf (t .constraints)) (parent-right n (s .constraints) wf (t .constraints)) (λ g _. parent-below n (s .constraints) wf g) (n + m) (some f)
           ∙ ap (Option·map (λ p. n + p)) (ap (λ (k : ℕ). climb (parentOf (t .constraints)) k (some f)) (add-comm n m) ∙ climb-more (parentOf (t .constraints)) m n (some f) (climb-ends t k f b)))
 
-  pub order-join : ring s ≡ false → fieldOrder (joinSpec s t) ≡ fieldOrder s ++ map (λ f. width s + f) (fieldOrder t)
+  pub order-join : cyclic s ≡ false → fieldOrder (joinSpec s t) ≡ fieldOrder s ++ map (λ f. width s + f) (fieldOrder t)
   unfolding fieldOrder joinSpec
   order-join h =
       ap₂ (λ (n : ℕ) (l : List ℕ). placeFields (parentOf (s .constraints ++ map (move (width s)) (t .constraints))) n l) (width-join s t) (fields-of-join s t)
@@ -103,7 +103,7 @@ module _ (s t : Spec) (wf : Named s) where
 
 orderOf-join : (e : Engine) (s t : Spec) → Named s → unsound e s ≡ false → orderOf e (joinSpec s t) ≡ orderOf e s ++ map (λ f. width s + f) (orderOf e t)
 unfolding orderOf
-orderOf-join structural s t wf h = order-join s t wf (sound-ringless s h)
+orderOf-join structural s t wf h = order-join s t wf (sound-acyclic s h)
 orderOf-join exhaustive s t wf h = fields-of-join s t
 
 -- ---- maps
@@ -141,13 +141,13 @@ module _ (n f : ℕ) (v w : List ℤ) (e : length v ≡ n) where
   mapHolds-right (some (kept p ms)) = ap₂ (crossAllows ms) (getD-right v w (pos 0) p e) (getD-right v w (pos 0) f e)
 
 module _ (n f : ℕ) (ls ks : List (List ℤ)) (e : length ls ≡ n) where
-  barrenMap-left : (o : Option KeptMap) → ParentBelow n (parentIn o) → f < n → barrenMap (ls ++ ks) o f ≡ barrenMap ls o f
-  barrenMap-left none k h = refl
-  barrenMap-left (some (kept p ms)) k h = ap₂ (λ (a b : List ℤ). any (barrenKey ms a) b) (getD-left ls ks [] f e h) (getD-left ls ks [] p e k)
+  childlessMap-left : (o : Option KeptMap) → ParentBelow n (parentIn o) → f < n → childlessMap (ls ++ ks) o f ≡ childlessMap ls o f
+  childlessMap-left none k h = refl
+  childlessMap-left (some (kept p ms)) k h = ap₂ (λ (a b : List ℤ). any (childlessKey ms a) b) (getD-left ls ks [] f e h) (getD-left ls ks [] p e k)
 
-  barrenMap-right : (o : Option KeptMap) → barrenMap (ls ++ ks) (moveKept n o) (n + f) ≡ barrenMap ks o f
-  barrenMap-right none = refl
-  barrenMap-right (some (kept p ms)) = ap₂ (λ (a b : List ℤ). any (barrenKey ms a) b) (getD-right ls ks [] f e) (getD-right ls ks [] p e)
+  childlessMap-right : (o : Option KeptMap) → childlessMap (ls ++ ks) (moveKept n o) (n + f) ≡ childlessMap ks o f
+  childlessMap-right none = refl
+  childlessMap-right (some (kept p ms)) = ap₂ (λ (a b : List ℤ). any (childlessKey ms a) b) (getD-right ls ks [] f e) (getD-right ls ks [] p e)
 
 module _ (s t : Spec) (wf : Named s) where
   mapsHold-join : (e : Engine) (v w : List ℤ) → length v ≡ width s → mapsHold e (joinSpec s t) (v ++ w) ≡ (mapsHold e s v && mapsHold e t w)
@@ -156,12 +156,12 @@ module _ (s t : Spec) (wf : Named s) where
       (λ f h. ap (λ o. mapHolds o f (v ++ w)) (mapOf-left e s t wf f h) ∙ mapHolds-left (width s) f v w l (mapOf e s f) (mapOf-below e s wf f) h)
       (λ f. ap (λ o. mapHolds o (width s + f) (v ++ w)) (mapOf-right e s t wf f) ∙ mapHolds-right (width s) f v w l (mapOf e t f))
 
-  barren-join : barren (joinSpec s t) ≡ (barren s || barren t)
-  unfolding barren joinSpec
-  barren-join = ap (λ ls. any (λ f. barrenMap ls (keptMap js f) f) (upto (width (joinSpec s t)))) (allowedLists-join s t wf)
-      ∙ any-fields s t (λ f. barrenMap (allowedLists s ++ allowedLists t) (keptMap js f) f) (λ f. barrenMap (allowedLists s) (keptMap (s .constraints) f) f) (λ f. barrenMap (allowedLists t) (keptMap (t .constraints) f) f)
-      (λ f h. ap (λ o. barrenMap (allowedLists s ++ allowedLists t) o f) (kept-left (width s) (s .constraints) wf (t .constraints) f h) ∙ barrenMap-left (width s) f (allowedLists s) (allowedLists t) len (keptMap (s .constraints) f) (parent-below (width s) (s .constraints) wf f) h)
-      (λ f. ap (λ o. barrenMap (allowedLists s ++ allowedLists t) o (width s + f)) (kept-right (width s) (s .constraints) wf (t .constraints) f) ∙ barrenMap-right (width s) f (allowedLists s) (allowedLists t) len (keptMap (t .constraints) f))
+  childless-join : childless (joinSpec s t) ≡ (childless s || childless t)
+  unfolding childless joinSpec
+  childless-join = ap (λ ls. any (λ f. childlessMap ls (keptMap js f) f) (upto (width (joinSpec s t)))) (allowedLists-join s t wf)
+      ∙ any-fields s t (λ f. childlessMap (allowedLists s ++ allowedLists t) (keptMap js f) f) (λ f. childlessMap (allowedLists s) (keptMap (s .constraints) f) f) (λ f. childlessMap (allowedLists t) (keptMap (t .constraints) f) f)
+      (λ f h. ap (λ o. childlessMap (allowedLists s ++ allowedLists t) o f) (kept-left (width s) (s .constraints) wf (t .constraints) f h) ∙ childlessMap-left (width s) f (allowedLists s) (allowedLists t) len (keptMap (s .constraints) f) (parent-below (width s) (s .constraints) wf f) h)
+      (λ f. ap (λ o. childlessMap (allowedLists s ++ allowedLists t) o (width s + f)) (kept-right (width s) (s .constraints) wf (t .constraints) f) ∙ childlessMap-right (width s) f (allowedLists s) (allowedLists t) len (keptMap (t .constraints) f))
     where
       js : List ConstraintSpec
       js = s .constraints ++ map (move (width s)) (t .constraints)
@@ -169,12 +169,12 @@ module _ (s t : Spec) (wf : Named s) where
       len : length (allowedLists s) ≡ width s
       len = unfold listsOf in length-listsOf structural s
 
--- A joined specification has no ring and is not barren where neither half is.
+-- A joined specification has no cycle and no key without a child where neither half has.
 pub unsound-join : (e : Engine) (s t : Spec) → Named s → unsound e s ≡ false → unsound e t ≡ false → unsound e (joinSpec s t) ≡ false
 unsound-join structural s t wf h k =
-    let a = or-split (ring s) (barren s) h in
-    let b = or-split (ring t) (barren t) k in
-    ap₂ _||_ (ring-join s t wf (a .0) (b .0)) (barren-join s t wf ∙ ap₂ _||_ (a .1) (b .1))
+    let a = or-split (cyclic s) (childless s) h in
+    let b = or-split (cyclic t) (childless t) k in
+    ap₂ _||_ (cyclic-join s t wf (a .0) (b .0)) (childless-join s t wf ∙ ap₂ _||_ (a .1) (b .1))
 unsound-join exhaustive s t wf h k = refl
 
 -- ---- emitted

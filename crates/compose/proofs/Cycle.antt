@@ -1,4 +1,4 @@
--- `ring` says what document 01 says: the kept maps lead from a field back to it.
+-- `cyclic` says what document 01 says: the kept maps lead from a field back to it.
 use mathlib.Core.Bool.{Bool, cond, false, false≢true, not, true}
 use mathlib.Core.Logic.{_⊎_, inl, inr}
 use mathlib.Core.Option.{Option, none, some}
@@ -10,7 +10,7 @@ use lib.Dec.{T, ltb, ltb→lt, nltb→le}
 use Rattle.lists.proofs.All.{All, any-some, upto-below}
 use Rattle.spec.specs.Spec.{Spec}
 use Rattle.spec.proofs.Named.{NamesBelow, width}
-use Rattle.compose.specs.Maps.{climb, isSome, parentOf, ring, up}
+use Rattle.compose.specs.Maps.{climb, isSome, parentOf, cyclic, up}
 use Rattle.compose.proofs.Parents.{ParentBelow, climb-add, climb-ends, climb-more, parent-below}
 
 laps : (par : ℕ → Option ℕ) (k f : ℕ) → climb par (suc k) (some f) ≡ some f → (j : ℕ) → climb par (j * suc k) (some f) ≡ some f
@@ -24,8 +24,8 @@ laps par k f e (suc j) = ap (λ (i : ℕ). climb par i (some f)) more ∙ climb-
     more = omega arith
 
 -- a field that the kept maps lead back to
-pub back-ring : (s : Spec) (f k : ℕ) → f < width s → climb (parentOf (s .constraints)) (suc k) (some f) ≡ some f → ring s ≡ true
-back-ring s f k h e = go (ring s) refl
+pub back-cyclic : (s : Spec) (f k : ℕ) → f < width s → climb (parentOf (s .constraints)) (suc k) (some f) ≡ some f → cyclic s ≡ true
+back-cyclic s f k h e = go (cyclic s) refl
   where
     n : ℕ
     n = width s
@@ -33,7 +33,7 @@ back-ring s f k h e = go (ring s) refl
     much : n * suc k ≡ n + n * k
     much = omega arith
 
-    go : (b : Bool) → ring s ≡ b → b ≡ true
+    go : (b : Bool) → cyclic s ≡ b → b ≡ true
     go true q = refl
     go false q = absurd (let c : some f ≡ none = sym (laps (parentOf (s .constraints)) k f e n) ∙ ap (λ (i : ℕ). climb (parentOf (s .constraints)) i (some f)) much ∙ climb-more (parentOf (s .constraints)) n (n * k) (some f) (climb-ends s q f h) in
         let z : _≡_ {A = ℕ} 0 1 = cc in omega arith)
@@ -102,9 +102,9 @@ orZero (some f) = f
 abbrev pub Back : Spec → Type 0
 Back s = (f : ℕ) × (k : ℕ) × (f < width s) × (climb (parentOf (s .constraints)) (suc k) (some f) ≡ some f)
 
-pub ring-back : (s : Spec) → All (NamesBelow (width s)) (s .constraints) → ring s ≡ true → Back s
-unfolding ring
-ring-back s wf e = from (any-some (λ f. isSome (climb (parentOf (s .constraints)) (width s) (some f))) (upto-below (width s)) e)
+pub cyclic-back : (s : Spec) → All (NamesBelow (width s)) (s .constraints) → cyclic s ≡ true → Back s
+unfolding cyclic
+cyclic-back s wf e = from (any-some (λ f. isSome (climb (parentOf (s .constraints)) (width s) (some f))) (upto-below (width s)) e)
   where
     n : ℕ
     n = width s
