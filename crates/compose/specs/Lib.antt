@@ -1,3 +1,4 @@
 pub mod Maps
 pub mod Tuples
 pub mod Force
+pub mod Walk
