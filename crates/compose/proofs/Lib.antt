@@ -8,3 +8,4 @@ pub mod Emitted
 pub mod Prune
 pub mod Turns
 pub mod Rows
+pub mod Walk
