@@ -9,3 +9,4 @@ pub mod Prune
 pub mod Turns
 pub mod Rows
 pub mod Walk
+pub mod Found
