@@ -5,3 +5,8 @@ pub mod Cycle
 pub mod Order
 pub mod Tuples
 pub mod Emitted
+pub mod Prune
+pub mod Turns
+pub mod Rows
+pub mod Walk
+pub mod Found
