@@ -1,3 +1,9 @@
 // Module 2, after src/verify/compose.rs: allowed lists, kept maps, field order, index tuples, forcing. Its definitions are in specs/.
+pub mod childless;
+pub mod filters;
+pub mod force;
 pub mod heads;
-pub mod lists;
+pub mod maps;
+pub mod order;
+pub mod places;
+pub mod tuples;

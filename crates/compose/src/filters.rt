@@ -41,7 +41,8 @@ pub fn lay_domain(h: Record, values: &[u8], list: &mut [i64])
     let mut i = 0;
     while i < list.len() {
         let v = domain_value(h, values, Index(i));
-        list[i] = v.0;
+        let x = v.0;
+        list[i] = x;
         i += 1;
     }
 }
