@@ -4,6 +4,6 @@ pub mod filters;
 pub mod force;
 pub mod heads;
 pub mod maps;
-pub mod order;
+pub mod ordering;
 pub mod places;
-pub mod tuples;
+pub mod steps;
