@@ -6,4 +6,5 @@ pub mod heads;
 pub mod maps;
 pub mod ordering;
 pub mod places;
+pub mod plan;
 pub mod steps;
