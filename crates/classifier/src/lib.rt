@@ -1,1 +1,4 @@
 // Module 5, after src/verify/classifier.rs and src/classification/mod.rs: count and page. Its definitions are in specs/.
+pub mod count;
+pub mod judge;
+pub mod tally;
