@@ -1,3 +1,4 @@
 pub mod Axes
 pub mod Packing
 pub mod Valid
+pub mod Masks
