@@ -2,3 +2,5 @@ pub mod Axes
 pub mod Packing
 pub mod Valid
 pub mod Masks
+pub mod Cross
+pub mod Constraints
