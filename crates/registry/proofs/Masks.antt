@@ -1,7 +1,7 @@
 -- The machine's AND and remainder by 2, of the numbers.
 use mathlib.Core.Bool.{false, true≢false}
 use mathlib.Core.Path.{_∙_, _≡_, ap, sym}
-use Prim.Native.Nat.{_^_, _<_, _≤_, suc, ℕ}
+use Prim.Native.Nat.{_^_, _<_, _≤_, ℕ}
 use native.Mathlib.Omega.{arith}
 use lib.Bits.{and-le-l, bitAnd}
 use lib.Dec.{eqb}
