@@ -4,3 +4,5 @@ pub mod Valid
 pub mod Masks
 pub mod Cross
 pub mod Constraints
+pub mod Digits
+pub mod Scale
