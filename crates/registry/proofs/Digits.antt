@@ -1,17 +1,24 @@
 -- Words below 2^63, and the turns of the loop that adds up the digits.
 use mathlib.Core.Bool.{Bool, cond, false, false≢true, not, true, true≢false}
-use mathlib.Core.List.{List, [], _∷_}
-use mathlib.Core.Option.{none, some}
-use mathlib.Core.Path.{_∙_, _≡_, ap, refl, sym}
+use mathlib.Core.List.{List, [], _∷_, map}
+use mathlib.Core.Option.{Option, none, some}
+use mathlib.Core.Path.{_∙_, _≡_, ap, refl, subst, sym}
 use Prim.Native.Nat.{_%_, _*_, _+_, _-_, _/_, _<_, _^_, _≤_, suc, zero, ℕ}
+use native.Mathlib.Numerals.{add-one}
 use native.Mathlib.Omega.{arith}
 use lib.Dec.{T, ltb}
 use lib.IntN.{natAbs, negsuc, pos, ℤ}
+use lib.ListN.{drop, drop-of-length-le, length}
 use lib.Signed.{leZ, ltZ, nonNeg}
+use mir.Syntax.{w64}
+use mir.Val.{Fits, SFits}
+use Rattle.lists.proofs.All.{All, All-at}
 use Rattle.lists.proofs.Tests.{ltb-no, ltb-yes, no-ge, yes-le, yes-lt}
-use Rattle.spec.specs.Record.{offsetBy}
+use Rattle.spec.specs.Record.{Record, axisOf, offsetBy, recordAt, recordsOf}
+use Rattle.spec.specs.Refusal.{negative}
 use Rattle.spec.specs.Spec.{Axis, AxisSpec}
-use Rattle.registry.specs.Code.{digitOf, restOf, wordBy, wordOf}
+use Rattle.spec.proofs.Fields.{length-records, record-getD, records-from}
+use Rattle.registry.specs.Code.{AxisIn, digitOf, restOf, wordBy, wordOf}
 use Rattle.registry.specs.Project.{atOffset, fitting}
 use Rattle.registry.proofs.Packing.{digitsFrom, shift-fits}
 
@@ -61,6 +68,10 @@ pub rest-is : (radix v : ℕ) → ¬ (radix ≡ 0) → v / radix ≡ restOf radi
 rest-is zero v n = absurd (n refl)
 rest-is (suc r) v n = refl
 
+pub natural-radix : (p : ℤ) → negative p ≡ false → SFits w64 p → T (nonNeg p) × Fits w64 (natAbs p)
+natural-radix (pos n) e f = (tt, omega arith)
+natural-radix (negsuc n) e f = absurd (true≢false e)
+
 -- An axis without radix has no room for what is left.
 pub axis-full : (word width shift radix : ℕ) (axes : List AxisSpec) (v : ℕ) → radix ≡ 0 → 2 ^ width ≤ v → digitsFrom word (Axis width shift radix ∷ axes) v ≡ none
 axis-full word width shift radix axes v e h = rw e (rw (ltb-no v (2 ^ width) h))
@@ -82,3 +93,32 @@ over-top word (Axis width shift (suc r) ∷ axes) v h = over-top (word + v % suc
 
 pub below-top : (word v : ℕ) → word < 2 ^ 63 → fitting (digitsFrom word [] v) ≡ some (pos word)
 below-top word v h = rw (ltb-yes word (2 ^ 63) h)
+
+-- ---- the axes where they lie
+module _ (file : List ℕ) where
+  -- What the axes from record i on make of a word.
+  abbrev pub packedFrom : ℕ → ℕ → ℕ → Option ℤ
+  packedFrom word v i = fitting (digitsFrom word (map axisOf (drop i (recordsOf file))) v)
+
+  pub axis-at : All AxisIn (recordsOf file) → (i : ℕ) → i < length file / 32 → AxisIn (recordAt file i)
+  axis-at h i l =
+      let m = recordAt file i in
+      subst AxisIn (record-getD m file i l) (All-at m (recordsOf file) h i (omega (arith, length-records file)))
+
+  module _ (word v i : ℕ) (inside : i < length file / 32) where
+    abbrev m : Record
+    m = recordAt file i
+
+    first : packedFrom word v i ≡ fitting (digitsFrom word (axisOf m ∷ map axisOf (drop (suc i) (recordsOf file))) v)
+    first = ap (λ (ms : List Record). fitting (digitsFrom word (map axisOf ms) v)) (records-from file i inside)
+
+    pub from-full : natAbs (m .p) ≡ 0 → 2 ^ m .a ≤ v → packedFrom word v i ≡ none
+    from-full e h = first ∙ ap fitting (axis-full word (m .a) (m .b) (natAbs (m .p)) (map axisOf (drop (suc i) (recordsOf file))) v e h)
+
+    pub from-turn : (natAbs (m .p) ≡ 0 → v < 2 ^ m .a) → packedFrom word v i ≡ packedFrom (word + digitOf (natAbs (m .p)) v * 2 ^ m .b) (restOf (natAbs (m .p)) v) (i + 1)
+    from-turn h = rw (add-one i) (first ∙ ap fitting (axis-turn word (m .a) (m .b) (natAbs (m .p)) (map axisOf (drop (suc i) (recordsOf file))) v h))
+
+  pub from-end : (word v i : ℕ) → length file / 32 ≤ i → word < 2 ^ 63 → packedFrom word v i ≡ some (pos word)
+  from-end word v i h l =
+      let e : length (recordsOf file) ≤ i = omega (arith, length-records file) in
+      ap (λ (ms : List Record). fitting (digitsFrom word (map axisOf ms) v)) (drop-of-length-le (recordsOf file) e) ∙ below-top word v l
