@@ -1,9 +1,9 @@
 -- Values on the scale: their sums and differences stay within 64 bits.
 use mathlib.Core.Bool.{Bool, cond, false≢true, true}
-use mathlib.Core.List.{List, [], _∷_}
+use mathlib.Core.List.{List}
 use mathlib.Core.Option.{Option, none}
 use mathlib.Core.Path.{_∙_, _≡_, ap, refl, sym}
-use Prim.Native.Nat.{_*_, _+_, _-_, _<_, _^_, _≤_, suc, zero, ℕ}
+use Prim.Native.Nat.{_+_, _-_, _<_, _^_, _≤_, suc, zero, ℕ}
 use native.Mathlib.Numerals.{add-one}
 use native.Mathlib.Omega.{arith}
 use lib.IntN.{+ℤ-assoc, +ℤ-idr, _+ℤ_, _-ℤ_, natAbs, negsuc, pos, subℕ, ℤ}

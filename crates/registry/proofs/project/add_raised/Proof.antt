@@ -1,6 +1,6 @@
 -- `registry::project::add_raised` meets its contract: the top is tested before the product and before the sum.
 use mathlib.Core.Path.{_∙_, _≡_, sym}
-use Prim.Native.Nat.{_*_, _+_, _<_, _^_, ℕ}
+use Prim.Native.Nat.{_*_, _+_, _<_, _^_}
 use native.Mathlib.Omega.{arith}
 use borrow.Author.Needs.{needs}
 use Rattle.registry.proofs.Digits.{fits-no, fits-yes, word-no, word-yes}

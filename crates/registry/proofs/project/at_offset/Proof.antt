@@ -1,6 +1,6 @@
 -- `registry::project::at_offset` meets its contract, by the sign of the offset.
 use mathlib.Core.Path.{_∙_, _≡_, ap}
-use Prim.Native.Nat.{_*_, _<_, _^_, ℕ}
+use Prim.Native.Nat.{_*_, _<_, _^_}
 use native.Mathlib.Omega.{arith}
 use lib.Dec.{T}
 use lib.IntN.{natAbs}

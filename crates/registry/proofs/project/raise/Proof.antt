@@ -1,5 +1,4 @@
 -- `registry::project::raise` meets its contract: v × 2^k is below 2^63 exactly where v is below 2^(63 − k).
-use mathlib.Core.Path.{_≡_}
 use Prim.Native.Nat.{_*_, _<_, _^_}
 use native.Mathlib.Omega.{arith}
 use borrow.Author.Needs.{needs}

@@ -2,15 +2,15 @@
 use mathlib.Core.List.{List, map}
 use mathlib.Core.Logic.{⊎-elim}
 use mathlib.Core.Option.{some}
-use mathlib.Core.Path.{_∙_, _≡_, ap, ap₂, refl, sym}
+use mathlib.Core.Path.{_∙_, _≡_, ap, ap₂, sym}
 use Prim.Native.Nat.{_*_, _+_, _-_, _/_, _<_, _^_, _≤_, ℕ}
 use native.Mathlib.Omega.{arith}
 use borrow.Author.Needs.{needs, sfits-of}
 use lib.IntN.{natAbs, pos}
 use lib.ListN.{drop, length}
 use mir.Syntax.{w64}
-use mir.Val.{SFits, ofZ, toZ}
-use mir.ValLaws.{toZ-ofZ, toZ-pos}
+use mir.Val.{ofZ, toZ}
+use mir.ValLaws.{toZ-ofZ}
 use Rattle.spec.specs.Record.{Record, axisOf, recordAt, recordsOf}
 use Rattle.registry.specs.Code.{AxisIn, digitOf, restOf, wordOf}
 use Rattle.registry.specs.declared.project.Word as code

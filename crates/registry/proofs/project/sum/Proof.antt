@@ -1,9 +1,9 @@
 -- `registry::project::sum` meets its contract. The invariant: what is added and what is left make up the whole, and f values are at most f × 2^56.
 use mathlib.Core.List.{List}
-use mathlib.Core.Path.{_∙_, _≡_, ap, sym}
-use Prim.Native.Nat.{_*_, _+_, _-_, _<_, _^_, _≤_}
+use mathlib.Core.Path.{_∙_, _≡_, sym}
+use Prim.Native.Nat.{_*_, _+_, _-_, _^_, _≤_}
 use native.Mathlib.Omega.{arith}
-use borrow.Author.Needs.{needs, sfits-of}
+use borrow.Author.Needs.{sfits-of}
 use lib.IntN.{+ℤ-idl, _+ℤ_, natAbs, pos, ℤ}
 use lib.ListN.{getD, length}
 use mir.Syntax.{w64}
