@@ -10,12 +10,9 @@ use lib.Dec.{T, ltb}
 use lib.IntN.{natAbs, negsuc, pos, ℤ}
 use lib.ListN.{drop, drop-of-length-le, length}
 use lib.Signed.{leZ, ltZ, nonNeg}
-use mir.Syntax.{w64}
-use mir.Val.{Fits, SFits}
 use Rattle.lists.proofs.All.{All, All-at}
 use Rattle.lists.proofs.Tests.{ltb-no, ltb-yes, no-ge, yes-le, yes-lt}
 use Rattle.spec.specs.Record.{Record, axisOf, offsetBy, recordAt, recordsOf}
-use Rattle.spec.specs.Refusal.{negative}
 use Rattle.spec.specs.Spec.{Axis, AxisSpec}
 use Rattle.spec.proofs.Fields.{length-records, record-getD, records-from}
 use Rattle.registry.specs.Code.{AxisIn, digitOf, restOf, wordBy, wordOf}
@@ -67,10 +64,6 @@ digit-is (suc r) v n = refl
 pub rest-is : (radix v : ℕ) → ¬ (radix ≡ 0) → v / radix ≡ restOf radix v
 rest-is zero v n = absurd (n refl)
 rest-is (suc r) v n = refl
-
-pub natural-radix : (p : ℤ) → negative p ≡ false → SFits w64 p → T (nonNeg p) × Fits w64 (natAbs p)
-natural-radix (pos n) e f = (tt, omega arith)
-natural-radix (negsuc n) e f = absurd (true≢false e)
 
 -- An axis without radix has no room for what is left.
 pub axis-full : (word width shift radix : ℕ) (axes : List AxisSpec) (v : ℕ) → radix ≡ 0 → 2 ^ width ≤ v → digitsFrom word (Axis width shift radix ∷ axes) v ≡ none

@@ -1,34 +1,36 @@
 -- Values on the scale: their sums and differences stay within 64 bits.
-use mathlib.Core.Bool.{Bool, cond, false≢true, true}
+use mathlib.Core.Bool.{Bool, cond, false, false≢true, true, true≢false}
 use mathlib.Core.List.{List}
 use mathlib.Core.Option.{Option, none}
 use mathlib.Core.Path.{_∙_, _≡_, ap, refl, sym}
 use Prim.Native.Nat.{_+_, _-_, _<_, _^_, _≤_, suc, zero, ℕ}
 use native.Mathlib.Numerals.{add-one}
 use native.Mathlib.Omega.{arith}
+use lib.Dec.{T}
 use lib.IntN.{+ℤ-assoc, +ℤ-idr, _+ℤ_, _-ℤ_, natAbs, negsuc, pos, subℕ, ℤ}
 use lib.ListN.{drop, drop-of-length-le, getD, length}
 use lib.Seq.{drop-cons}
-use lib.Signed.{ltZ}
+use lib.Signed.{ltZ, nonNeg}
 use mir.Syntax.{w64}
-use mir.Val.{SFits}
+use mir.Val.{Fits, SFits}
 use Rattle.lists.specs.Integers.{sumZ}
 use Rattle.lists.proofs.Signed.{apart-bound}
-use Rattle.lists.proofs.Tests.{ltb-yes, yes-le, yes-lt}
-use Rattle.spec.specs.Refusal.{onScale}
+use Rattle.lists.proofs.Tests.{ltb-yes, yes-lt}
+use Rattle.spec.specs.Refusal.{negative, onScale}
 use Rattle.spec.specs.Spec.{AxisSpec}
+use Rattle.spec.proofs.Multiples.{scale-bound}
 use Rattle.registry.specs.Project.{packed}
-
-pub scale-abs : (v : ℤ) → onScale v ≡ true → natAbs v ≤ 2 ^ 56
-scale-abs (pos n) e = yes-le n (2 ^ 56) e
-scale-abs (negsuc n) e = yes-le (suc n) (2 ^ 56) e
 
 pub small-fits : (v : ℤ) → natAbs v < 2 ^ 63 → SFits w64 v
 small-fits (pos n) h = record { sfits = omega arith }
 small-fits (negsuc n) h = record { sfits = omega arith }
 
+pub natural-fits : (v : ℤ) → negative v ≡ false → SFits w64 v → T (nonNeg v) × Fits w64 (natAbs v)
+natural-fits (pos n) e f = (tt, omega arith)
+natural-fits (negsuc n) e f = absurd (true≢false e)
+
 pub apart-fits : (v w : ℤ) → onScale v ≡ true → onScale w ≡ true → SFits w64 (v -ℤ w)
-apart-fits v w d e = small-fits (v -ℤ w) (omega (arith, apart-bound v w, scale-abs v d, scale-abs w e))
+apart-fits v w d e = small-fits (v -ℤ w) (omega (arith, apart-bound v w, scale-bound v d, scale-bound w e))
 
 -- ---- the sum
 pub sum-bound : (v w : ℤ) → natAbs (v +ℤ w) ≤ natAbs v + natAbs w

@@ -9,10 +9,10 @@ use borrow.Author.Needs.{needs, sfits-of}
 use lib.IntN.{pos, ℤ}
 use lib.ListN.{drop, getD, take}
 use mir.Syntax.{w64}
-use mir.Val.{ofZ, toZ}
 use mir.ValLaws.{toZ-ofZ}
 use Rattle.lists.specs.Integers.{eqZ}
 use Rattle.lists.proofs.Range.{in-range}
+use Rattle.spec.proofs.Multiples.{held}
 use Rattle.spec.specs.Kind.{kindOf}
 use Rattle.spec.specs.Record.{Record, recordAt, recordsOf}
 use Rattle.spec.proofs.Fields.{kind-of}
@@ -39,10 +39,10 @@ module _ (c : tie.After-t122) where
   kind-read : kindOf code ≡ h .kind
   kind-read = let s = c .before .before .before .before .before .before in ap kindOf (c .before .before .before .before .code-at .ensures) ∙ sym (kind-of (s .args .file .now) (s .args .head))
 
-  a-read : toZ w64 (ofZ w64 (getD row (c .before .before .before .a-at .result) (pos 0))) ≡ valueAt row (h .a)
+  a-read : held (getD row (c .before .before .before .a-at .result) (pos 0)) ≡ valueAt row (h .a)
   a-read = toZ-ofZ w64 _ (sfits-of (c .before .t12 .given)) ∙ ap (λ (f : ℕ). getD row f (pos 0)) (c .before .before .before .a-at .ensures .0)
 
-  b-read : toZ w64 (ofZ w64 (getD row (c .before .before .b-at .result) (pos 0))) ≡ valueAt row (h .b)
+  b-read : held (getD row (c .before .before .b-at .result) (pos 0)) ≡ valueAt row (h .b)
   b-read = toZ-ofZ w64 _ (sfits-of (c .t122 .given)) ∙ ap (λ (f : ℕ). getD row f (pos 0)) (c .before .before .b-at .ensures .0)
 
   -- the members, as the part of the file that holds them
@@ -54,7 +54,7 @@ module _ (c : tie.After-t122) where
 
   -- a test of one value
   one-read : {x y : ℤ} {rs : List Record} → x ≡ h .p → y ≡ h .q → rs ≡ ms → ofTwo (kindOf code) ≡ false
-      → passes (testIn (kindOf code) x y rs) (toZ w64 (ofZ w64 (getD row (c .before .before .before .a-at .result) (pos 0)))) ≡ checked row h ms (h .kind)
+      → passes (testIn (kindOf code) x y rs) (held (getD row (c .before .before .before .a-at .result) (pos 0))) ≡ checked row h ms (h .kind)
   one-read d e f g = rw (d, e, f, a-read) (of-one row h ms (kindOf code) g ∙ ap (checked row h ms) kind-read)
 
 abbrev twoAt : ℕ → Bool

@@ -6,18 +6,19 @@ use Prim.Native.Nat.{_<_, _^_, ℕ}
 use borrow.Author.Needs.{needs, sfits-of}
 use lib.IntN.{_-ℤ_, natAbs, pos, ℤ}
 use mir.Syntax.{w64}
-use mir.Val.{SFits, ofZ, toZ}
+use mir.Val.{SFits}
 use mir.ValLaws.{toZ-ofZ}
 use Rattle.lists.proofs.Signed.{natural-apart, nlt-le}
+use Rattle.spec.proofs.Multiples.{held}
 use Rattle.spec.specs.Record.{axisOf, offsetBy, recordsOf}
 use Rattle.spec.specs.Refusal.{negative}
 use Rattle.spec.specs.Spec.{AxisSpec}
 use Rattle.registry.specs.Code.{wordOf}
 use Rattle.registry.specs.Project.{atOffset, digits, fitting, packed, plus}
 use Rattle.registry.specs.declared.project.Word as code
-use Rattle.registry.proofs.Digits.{fits-no, fits-yes, natural-radix, over-top}
+use Rattle.registry.proofs.Digits.{fits-no, fits-yes, over-top}
 use Rattle.registry.proofs.Packing.{plus-digits}
-use Rattle.registry.proofs.Scale.{apart-fits, packed-below}
+use Rattle.registry.proofs.Scale.{apart-fits, natural-fits, packed-below}
 use Rattle.registry.proofs.project.decompose.Statement.{statement}
 use Rattle.registry.proofs.project.decompose.Tie as tie
 
@@ -35,10 +36,10 @@ module _ (c : tie.After-struct-told) where
   abbrev axes : List AxisSpec
   axes = map axisOf (recordsOf (c .before .before .args .axes .now))
 
-  value-read : toZ w64 (ofZ w64 value) ≡ value
+  value-read : held value ≡ value
   value-read = toZ-ofZ w64 value (sfits-of (c .struct-told .given .0 .1))
 
-  base-read : toZ w64 (ofZ w64 base) ≡ base
+  base-read : held base ≡ base
   base-read = toZ-ofZ w64 base (c .before .before .fits .base)
 
   apart-fit : SFits w64 (value -ℤ base)
@@ -48,7 +49,7 @@ module _ (c : tie.After-struct-told) where
   above = natAbs (value -ℤ base)
 
   abbrev taken : ℕ
-  taken = natAbs (toZ w64 (ofZ w64 (toZ w64 (ofZ w64 value) -ℤ toZ w64 (ofZ w64 base))))
+  taken = natAbs (held (held value -ℤ held base))
 
   above-read : taken ≡ above
   above-read = rw (value-read, base-read) (rw (toZ-ofZ w64 (value -ℤ base) apart-fit))
@@ -68,7 +69,7 @@ sub-u c = let t = c .before in rw (value-read t, base-read t) (apart-fit t)
 cast-u : tie.Need-cast-u
 cast-u c =
     let t = c .before in
-    rw (value-read t, base-read t) (rw (toZ-ofZ w64 (value t -ℤ base t) (apart-fit t)) (natural-radix (value t -ℤ base t) (ap negative (natural c)) (apart-fit t)))
+    rw (value-read t, base-read t) (rw (toZ-ofZ w64 (value t -ℤ base t) (apart-fit t)) (natural-fits (value t -ℤ base t) (ap negative (natural c)) (apart-fit t)))
 
 at-offset-requires : tie.Need-at-offset-requires
 at-offset-requires c κs = search needs

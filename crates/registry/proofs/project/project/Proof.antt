@@ -12,11 +12,11 @@ use lib.ListN.{drop, getD, length, length-drop, take}
 use lib.Seq.{take-all}
 use lib.Signed.{leZ}
 use mir.Syntax.{w64}
-use mir.Val.{ofZ, toZ}
 use mir.ValLaws.{toZ-ofZ}
 use Rattle.lists.specs.Integers.{lowBit}
 use Rattle.lists.proofs.All.{All, All-at}
 use Rattle.lists.proofs.Range.{in-range}
+use Rattle.spec.proofs.Multiples.{held}
 use Rattle.spec.specs.Kind.{Kind, kindOf}
 use Rattle.spec.specs.Record.{Record, axisOf, offsetBy, recordAt, recordsOf}
 use Rattle.spec.specs.Refusal.{onScale}
@@ -53,7 +53,7 @@ module _ (c : tie.After-t11) where
   abbrev value : ℤ
   value = getD row (c .before .a-at .result) (pos 0)
 
-  value-read : toZ w64 (ofZ w64 value) ≡ value
+  value-read : held value ≡ value
   value-read = toZ-ofZ w64 value (sfits-of (c .t11 .given))
 
   value-is : value ≡ valueAt row (h .a)
@@ -66,7 +66,7 @@ module _ (c : tie.After-t11) where
   run-whole : ms ≡ drop after records
   run-whole = let file = c .before .before .before .before .args .file .now in take-all (length file / 32 - after) (drop after records) (omega (arith, length-drop after records, length-records file))
 
-  value-scaled : onScale (toZ w64 (ofZ w64 value)) ≡ true
+  value-scaled : onScale (held value) ≡ true
   value-scaled = let s = c .before .before .before .before in rw (value-read, value-is) (All-at (pos 0) row (s .pre .0 .scaled) (h .a) (s .pre .1 .a-below))
 
   abbrev projected : Kind → Option ℤ
@@ -122,7 +122,7 @@ returns-2 : tie.Need-returns-2
 unfolding kindOf
 returns-2 c =
     let t = c .before .before in
-    ap (λ (x : ℤ). some (toZ w64 (ofZ w64 x))) (value-read t) ∙ ap some (value-read t ∙ value-is t) ∙ ap (projected t) (sym (ap kindOf (c .before .match .keys2)) ∙ kind-read t)
+    ap (λ (x : ℤ). some (held x)) (value-read t) ∙ ap some (value-read t ∙ value-is t) ∙ ap (projected t) (sym (ap kindOf (c .before .match .keys2)) ∙ kind-read t)
 
 returns-3 : tie.Need-returns-3
 unfolding kindOf

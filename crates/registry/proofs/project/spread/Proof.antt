@@ -9,14 +9,15 @@ use borrow.Author.Needs.{needs, sfits-of}
 use lib.IntN.{natAbs, pos}
 use lib.ListN.{drop, length}
 use mir.Syntax.{w64}
-use mir.Val.{ofZ, toZ}
 use mir.ValLaws.{toZ-ofZ}
+use Rattle.spec.proofs.Multiples.{held}
 use Rattle.spec.specs.Record.{Record, axisOf, recordAt, recordsOf}
 use Rattle.registry.specs.Code.{AxisIn, digitOf, restOf, wordOf}
 use Rattle.registry.specs.declared.project.Word as code
 use Rattle.registry.specs.Project.{digits, fitting, plus}
-use Rattle.registry.proofs.Digits.{axis-at, fits-no, fits-yes, from-end, from-full, from-turn, natural-radix, over-top, packedFrom}
+use Rattle.registry.proofs.Digits.{axis-at, fits-no, fits-yes, from-end, from-full, from-turn, over-top, packedFrom}
 use Rattle.registry.proofs.Packing.{plus-digits}
+use Rattle.registry.proofs.Scale.{natural-fits}
 use Rattle.registry.proofs.project.spread.Statement.{statement}
 use Rattle.registry.proofs.project.spread.Tie as tie
 
@@ -58,16 +59,16 @@ module _ (c : tie.After-p-at Inv-loop μ-loop) where
   axis = axis-at axes (c .before .before .before .before .pre .1) i inside
 
   abbrev radix : ℕ
-  radix = natAbs (toZ w64 (ofZ w64 (c .p-at .result)))
+  radix = natAbs (held (c .p-at .result))
 
-  p-read : toZ w64 (ofZ w64 (c .p-at .result)) ≡ m .p
+  p-read : held (c .p-at .result) ≡ m .p
   p-read = toZ-ofZ w64 (c .p-at .result) (sfits-of (c .p-at .ok)) ∙ c .p-at .ensures
 
   radix-read : radix ≡ natAbs (m .p)
   radix-read = ap natAbs p-read
 
 cast-radix : tie.Need-cast-radix Inv-loop μ-loop
-cast-radix c = rw (toZ-ofZ w64 (c .p-at .result) (sfits-of (c .p-at .ok))) (natural-radix (c .p-at .result) (rw (c .p-at .ensures) (axis c .radix)) (sfits-of (c .p-at .ok)))
+cast-radix c = rw (toZ-ofZ w64 (c .p-at .result) (sfits-of (c .p-at .ok))) (natural-fits (c .p-at .result) (rw (c .p-at .ensures) (axis c .radix)) (sfits-of (c .p-at .ok)))
 
 a-at-requires : tie.Need-a-at-requires Inv-loop μ-loop
 a-at-requires c κs = omega arith

@@ -7,11 +7,12 @@ use borrow.Author.Needs.{sfits-of}
 use lib.IntN.{+ℤ-idl, _+ℤ_, natAbs, pos, ℤ}
 use lib.ListN.{getD, length}
 use mir.Syntax.{w64}
-use mir.Val.{SFits, ofZ, toZ}
+use mir.Val.{SFits, toZ}
 use mir.ValLaws.{toZ-ofZ}
 use Rattle.lists.specs.Integers.{sumZ}
 use Rattle.lists.proofs.All.{All-at}
-use Rattle.registry.proofs.Scale.{scale-abs, small-fits, sum-bound, sum-end, sum-more, sumFrom}
+use Rattle.spec.proofs.Multiples.{held, scale-bound}
+use Rattle.registry.proofs.Scale.{small-fits, sum-bound, sum-end, sum-more, sumFrom}
 use Rattle.registry.proofs.project.sum.Statement.{statement}
 use Rattle.registry.proofs.project.sum.Tie as tie
 
@@ -38,16 +39,16 @@ module _ (c : tie.After-total Inv-loop μ-loop) where
   abbrev value : ℤ
   value = getD row (c .before .before .loop .f) (pos 0)
 
-  value-read : toZ w64 (ofZ w64 value) ≡ value
+  value-read : held value ≡ value
   value-read = toZ-ofZ w64 value (sfits-of (c .total .given))
 
   abbrev next : ℤ
-  next = toZ w64 (c .before .before .loop .total) +ℤ toZ w64 (ofZ w64 value)
+  next = toZ w64 (c .before .before .loop .total) +ℤ held value
 
   next-bound : natAbs next ≤ (c .before .before .loop .f + 1) * 2 ^ 56
   next-bound =
       let scaled = All-at (pos 0) row (c .before .before .before .pre .scaled) (c .before .before .loop .f) (c .before .loop-test .taken) in
-      rw value-read (omega (arith, sum-bound (toZ w64 (c .before .before .loop .total)) value, scale-abs value scaled, c .before .before .loop .inv .1))
+      rw value-read (omega (arith, sum-bound (toZ w64 (c .before .before .loop .total)) value, scale-bound value scaled, c .before .before .loop .inv .1))
 
   next-fits : SFits w64 next
   next-fits = small-fits next (omega (arith, next-bound, c .before .before .before .pre .few))
