@@ -24,20 +24,23 @@ use Rattle.registry.proofs.check.check.Tie as tie
 
 -- the head, its members and the row
 module _ (c : tie.After-t122) where
+  abbrev s : tie.Start
+  s = c .before .before .before .before .before .before
+
   abbrev h : Record
-  h = recordAt (c .before .before .before .before .before .before .args .file .now) (c .before .before .before .before .before .before .args .head)
+  h = recordAt (s .args .file .now) (s .args .head)
 
   abbrev ms : List Record
-  ms = let s = c .before .before .before .before .before .before in take (s .args .end - suc (s .args .head)) (drop (suc (s .args .head)) (recordsOf (s .args .file .now)))
+  ms = take (s .args .end - suc (s .args .head)) (drop (suc (s .args .head)) (recordsOf (s .args .file .now)))
 
   abbrev row : List ℤ
-  row = c .before .before .before .before .before .before .args .row .now
+  row = s .args .row .now
 
   abbrev code : ℕ
   code = c .before .before .before .before .code-at .result
 
   kind-read : kindOf code ≡ h .kind
-  kind-read = let s = c .before .before .before .before .before .before in ap kindOf (c .before .before .before .before .code-at .ensures) ∙ sym (kind-of (s .args .file .now) (s .args .head))
+  kind-read = ap kindOf (c .before .before .before .before .code-at .ensures) ∙ sym (kind-of (s .args .file .now) (s .args .head))
 
   a-read : held (getD row (c .before .before .before .a-at .result) (pos 0)) ≡ valueAt row (h .a)
   a-read = toZ-ofZ w64 _ (sfits-of (c .before .t12 .given)) ∙ ap (λ (f : ℕ). getD row f (pos 0)) (c .before .before .before .a-at .ensures .0)
@@ -46,11 +49,11 @@ module _ (c : tie.After-t122) where
   b-read = toZ-ofZ w64 _ (sfits-of (c .t122 .given)) ∙ ap (λ (f : ℕ). getD row f (pos 0)) (c .before .before .b-at .ensures .0)
 
   -- the members, as the part of the file that holds them
-  run-read : {rs : List Record} → rs ≡ take (c .before .before .before .before .before .before .args .end - (c .before .before .before .before .before .before .args .head + 1)) (drop (c .before .before .before .before .before .before .args .head + 1) (recordsOf (c .before .before .before .before .before .before .args .file .now))) → rs ≡ ms
-  run-read e = e ∙ rw (add-one (c .before .before .before .before .before .before .args .head))
+  run-read : {rs : List Record} → rs ≡ take (s .args .end - (s .args .head + 1)) (drop (s .args .head + 1) (recordsOf (s .args .file .now))) → rs ≡ ms
+  run-read e = e ∙ rw (add-one (s .args .head))
 
   mask-read : {x : ℤ} → x ≡ h .p → maskIn (kindOf code) x ≡ true
-  mask-read e = ap₂ maskIn kind-read e ∙ c .before .before .before .before .before .before .pre .mask
+  mask-read e = ap₂ maskIn kind-read e ∙ s .pre .mask
 
   -- a test of one value
   one-read : {x y : ℤ} {rs : List Record} → x ≡ h .p → y ≡ h .q → rs ≡ ms → ofTwo (kindOf code) ≡ false

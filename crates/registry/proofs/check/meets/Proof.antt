@@ -1,23 +1,22 @@
 -- `registry::check::meets` meets its contract, kind by kind; a range of numbers that are no tests is computed at once.
 use mathlib.Core.Bool.{Bool, true}
-use mathlib.Core.List.{List}
 use mathlib.Core.Path.{_≡_, refl}
 use Prim.Native.Nat.{ℕ, _≤_}
 use native.Mathlib.Omega.{arith}
 use borrow.Author.Needs.{needs}
-use lib.IntN.{ℤ}
 use mir.Syntax.{w64}
 use mir.ValLaws.{toZ-ofZ}
 use Rattle.lists.proofs.Range.{in-range}
 use Rattle.spec.specs.Kind.{kindOf}
-use Rattle.spec.specs.Record.{Record, recordsOf}
+use Rattle.spec.specs.Record.{recordsOf}
 use Rattle.registry.specs.Code.{passes, testIn}
 use Rattle.registry.proofs.Constraints.{mask-natural}
 use Rattle.registry.proofs.check.meets.Statement.{statement}
 use Rattle.registry.proofs.check.meets.Tie as tie
 
-abbrev passesBy : ℤ → ℤ → List Record → ℤ → ℕ → Bool
-passesBy p q ms v n = passes (testIn (kindOf n) p q ms) v
+-- the answer by the number of the kind
+abbrev passesBy : tie.Start → ℕ → Bool
+passesBy s n = passes (testIn (kindOf n) (s .args .p) (s .args .q) (recordsOf (s .args .run .now))) (s .args .v .0)
 
 -- `omega` takes no more than six numbers that a number is not.
 past-even : (n : ℕ) → 10 ≤ n → ¬ (n ≡ 10) → ¬ (n ≡ 11) → 12 ≤ n
@@ -90,28 +89,28 @@ returns-8 c = let s = c .before .before .before in rw (c .before .match .keys8) 
 
 returns-9 : tie.Need-returns-9
 unfolding kindOf
-returns-9 c = let s = c .before .before .before in in-range (λ n. true) (passesBy (s .args .p) (s .args .q) (recordsOf (s .args .run .now)) (s .args .v .0)) 0 10 refl (s .args .code) (omega arith) (omega arith)
+returns-9 c = let s = c .before .before .before in in-range (λ n. true) (passesBy s) 0 10 refl (s .args .code) (omega arith) (omega arith)
 
 returns-10 : tie.Need-returns-10
 unfolding kindOf
 returns-10 c =
     let s = c .before .before .before .before in
     let r = c .before .before .match .rest in
-    in-range (λ n. true) (passesBy (s .args .p) (s .args .q) (recordsOf (s .args .run .now)) (s .args .v .0)) 12 2 refl (s .args .code) (past-even (s .args .code) (c .before .if1 .left) (r .0 .0 .0 .0 .0 .0 .0 .1) (r .0 .0 .0 .0 .0 .0 .1)) (omega arith)
+    in-range (λ n. true) (passesBy s) 12 2 refl (s .args .code) (past-even (s .args .code) (c .before .if1 .left) (r .0 .0 .0 .0 .0 .0 .0 .1) (r .0 .0 .0 .0 .0 .0 .1)) (omega arith)
 
 returns-11 : tie.Need-returns-11
 unfolding kindOf
 returns-11 c =
     let s = c .before .before .before .before .before in
     let r = c .before .before .before .match .rest in
-    in-range (λ n. true) (passesBy (s .args .p) (s .args .q) (recordsOf (s .args .run .now)) (s .args .v .0)) 19 2 refl (s .args .code) (past-oneof (s .args .code) (c .before .if2 .left) (r .0 .0 .0 .0 .0 .1) (r .0 .0 .0 .0 .1) (r .0 .0 .0 .1) (r .0 .0 .1) (r .0 .1)) (omega arith)
+    in-range (λ n. true) (passesBy s) 19 2 refl (s .args .code) (past-oneof (s .args .code) (c .before .if2 .left) (r .0 .0 .0 .0 .0 .1) (r .0 .0 .0 .0 .1) (r .0 .0 .0 .1) (r .0 .0 .1) (r .0 .1)) (omega arith)
 
 returns-12 : tie.Need-returns-12
 unfolding kindOf
 returns-12 c =
     let s = c .before .before .before .before .before in
     let r = c .before .before .before .match .rest in
-    in-range (λ n. true) (passesBy (s .args .p) (s .args .q) (recordsOf (s .args .run .now)) (s .args .v .0)) 22 234 refl (s .args .code) (past-bitmask (s .args .code) (c .if3 .left) (r .1)) (omega arith)
+    in-range (λ n. true) (passesBy s) 22 234 refl (s .args .code) (past-bitmask (s .args .code) (c .if3 .left) (r .1)) (omega arith)
 
 pub meets-spec : {M : Type 1} → statement M
 meets-spec =

@@ -29,26 +29,29 @@ use Rattle.registry.proofs.project.project.Tie as tie
 
 -- the head, its members and the row
 module _ (c : tie.After-t11) where
+  abbrev s : tie.Start
+  s = c .before .before .before .before
+
   abbrev h : Record
-  h = recordAt (c .before .before .before .before .args .file .now) (c .before .before .before .before .args .head)
+  h = recordAt (s .args .file .now) (s .args .head)
 
   abbrev records : List Record
-  records = recordsOf (c .before .before .before .before .args .file .now)
+  records = recordsOf (s .args .file .now)
 
   abbrev after : ℕ
-  after = suc (c .before .before .before .before .args .head)
+  after = suc (s .args .head)
 
   abbrev ms : List Record
-  ms = take (length (c .before .before .before .before .args .file .now) / 32 - after) (drop after records)
+  ms = take (length (s .args .file .now) / 32 - after) (drop after records)
 
   abbrev row : List ℤ
-  row = c .before .before .before .before .args .row .now
+  row = s .args .row .now
 
   abbrev code : ℕ
   code = c .before .before .code-at .result
 
   kind-read : kindOf code ≡ h .kind
-  kind-read = let s = c .before .before .before .before in ap kindOf (c .before .before .code-at .ensures) ∙ sym (kind-of (s .args .file .now) (s .args .head))
+  kind-read = ap kindOf (c .before .before .code-at .ensures) ∙ sym (kind-of (s .args .file .now) (s .args .head))
 
   abbrev value : ℤ
   value = getD row (c .before .a-at .result) (pos 0)
@@ -60,14 +63,14 @@ module _ (c : tie.After-t11) where
   value-is = ap (λ (f : ℕ). getD row f (pos 0)) (c .before .a-at .ensures .0)
 
   -- the members, as the part of the file that holds them: all that follow
-  run-read : {rs : List Record} → rs ≡ take (length (c .before .before .before .before .args .file .now) / 32 - (c .before .before .before .before .args .head + 1)) (drop (c .before .before .before .before .args .head + 1) records) → rs ≡ ms
-  run-read e = e ∙ rw (add-one (c .before .before .before .before .args .head))
+  run-read : {rs : List Record} → rs ≡ take (length (s .args .file .now) / 32 - (s .args .head + 1)) (drop (s .args .head + 1) records) → rs ≡ ms
+  run-read e = e ∙ rw (add-one (s .args .head))
 
   run-whole : ms ≡ drop after records
-  run-whole = let file = c .before .before .before .before .args .file .now in take-all (length file / 32 - after) (drop after records) (omega (arith, length-drop after records, length-records file))
+  run-whole = let file = s .args .file .now in take-all (length file / 32 - after) (drop after records) (omega (arith, length-drop after records, length-records file))
 
   value-scaled : onScale (held value) ≡ true
-  value-scaled = let s = c .before .before .before .before in rw (value-read, value-is) (All-at (pos 0) row (s .pre .0 .scaled) (h .a) (s .pre .1 .a-below))
+  value-scaled = rw (value-read, value-is) (All-at (pos 0) row (s .pre .0 .scaled) (h .a) (s .pre .1 .a-below))
 
   abbrev projected : Kind → Option ℤ
   projected k = projectIn k h ms row
