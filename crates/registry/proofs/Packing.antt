@@ -32,7 +32,7 @@ plus-zero : (o : Option ℕ) → plus 0 o ≡ o
 plus-zero none = refl
 plus-zero (some word) = ap some (zero-add word)
 
-plus-digits : (word : ℕ) (axes : List AxisSpec) (v : ℕ) → plus word (digits axes v) ≡ digitsFrom word axes v
+pub plus-digits : (word : ℕ) (axes : List AxisSpec) (v : ℕ) → plus word (digits axes v) ≡ digitsFrom word axes v
 plus-digits word [] v = ap some (add-zero word)
 plus-digits word (Axis width shift zero ∷ axes) v = go (ltb v (2 ^ width)) (plus-digits (word + v * 2 ^ shift) axes v)
   where

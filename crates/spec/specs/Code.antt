@@ -24,7 +24,7 @@ use Rattle.spec.specs.declared.kinds.Row as code
 use Rattle.spec.specs.declared.records.Record as code′
 use Rattle.spec.specs.declared.judge.Context as code‴
 use Rattle.spec.specs.declared.scan.State as scan
-use Rattle.spec.specs.declared.scan.Refusal as scan′
+use Rattle.spec.specs.declared.refusal.Refusal as code⁵
 use Rattle.spec.specs.declared.validate.Shape as code⁗
 use Rattle.spec.specs.declared.validate.Validation.{Validation}
 use Rattle.spec.specs.declared.validate.Validation.the-variants as validation
@@ -183,7 +183,7 @@ pub record Reached (c : Context) (i : ℕ) (st : scan.State) : Type 0 where
 abbrev pub leftAt : List ℕ → scan.State → ℕ → Option Refused
 leftAt file st i = left (stateContext st) (recordAt file (st .head)) (st .head + 1) (take (i - (st .head + 1)) (drop (st .head + 1) (recordsOf file))) (drop i (recordsOf file)) (i + 1)
 
-abbrev pub asFault : scan′.Refusal → Option Refused
+abbrev pub asFault : code⁵.Refusal → Option Refused
 asFault r = refuse (r .number) (r .record)
 
 -- What a turn leaves.

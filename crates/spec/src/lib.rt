@@ -6,6 +6,7 @@ mod judge;
 pub mod kinds;
 pub mod numbers;
 pub mod records;
+pub mod refusal;
 mod scan;
 mod shape;
 pub mod validate;

@@ -11,6 +11,7 @@ use crate::kinds::class_of;
 use crate::kinds::is_member;
 use crate::records::Record;
 use crate::records::record_at;
+use crate::refusal::Refusal;
 ghost use mathlib.Core.Path.{_≡_};
 ghost use mathlib.Core.Bool.{true, false};
 ghost use Prim.Native.Nat.{_/_, _≤_, _<_};
@@ -19,12 +20,6 @@ ghost use Rattle.spec.specs.Kind.{kindOf, isMember};
 ghost use Rattle.spec.specs.Record.{recordsOf, recordAt};
 ghost use Rattle.spec.specs.Refusal.{afterHead, recordsFault};
 ghost use Rattle.spec.specs.Code.{asRecord, asContext, asFault, leftAt, afterTurn, turnGood, Reached, Counted, stateContext};
-
-// A refusal; number 0 is none.
-pub struct Refusal {
-    pub number: u8,
-    pub record: usize,
-}
 
 // The fields, the constraints and the section so far, and the last head's record, counted from 0.
 pub struct State {

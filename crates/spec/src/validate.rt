@@ -1,5 +1,5 @@
 // Refusals 1 to 10, or what the layers above need.
-use crate::scan::Refusal;
+use crate::refusal::Refusal;
 use crate::scan::scan;
 use crate::shape::LIMIT;
 use crate::shape::heads;
