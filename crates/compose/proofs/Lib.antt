@@ -10,3 +10,6 @@ pub mod Turns
 pub mod Rows
 pub mod Walk
 pub mod Found
+pub mod Stuck
+pub mod Forcing
+pub mod Chosen
