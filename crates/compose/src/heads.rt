@@ -5,7 +5,7 @@ ghost use mathlib.Core.Path.{_≡_};
 ghost use Prim.Native.Nat.{_+_, _≤_};
 ghost use lib.ListN.{length, take};
 ghost use Rattle.spec.specs.Record.{recordsOf, groups};
-ghost use Rattle.compose.specs.Code.{groupsIn};
+ghost use Rattle.compose.specs.Code.{groupsIn, Rising};
 
 // 32 fields, 256 constraints, a projector, and the end.
 pub const HEADS: usize = 290;
@@ -20,6 +20,7 @@ pub fn heads_of(file: &[u8]) -> Heads
     requires { ⌜ length (groups (recordsOf (now file))) ≤ 289 ⌝ }
     ensures count { λ r. ⌜ r .count ≡ length (groups (recordsOf (now (file .entry)))) ⌝ }
     ensures groups { λ r. ⌜ groupsIn (now (file .entry)) (take (r .count + 1) (r .at)) ≡ groups (recordsOf (now (file .entry))) ⌝ }
+    ensures rising { λ r. ⌜ Rising (now (file .entry)) (take (r .count + 1) (r .at)) ⌝ }
 {
     let n = file.len() / 32;
     let mut at = [0usize; 290];
