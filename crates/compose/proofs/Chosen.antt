@@ -23,18 +23,7 @@ use Rattle.registry.specs.Code.{groupIn}
 use Rattle.compose.specs.Code.{ChosenFrom, KindAt, chosenIn, codeIs, constraintsIn, enablesOf, groupsFrom, groupsIn, isEnable}
 use Rattle.compose.specs.Force.{enables, forcingOrder}
 use Rattle.compose.specs.Tuples.{exhaustive, structural}
-
--- ---- the groups
-pub groups-turn : (file heads : List ℕ) (k : ℕ) → suc k < length heads → groupsIn file (drop k heads) ≡ groupIn file (getD heads k 0) (getD heads (suc k) 0) ∷ groupsIn file (drop (suc k) heads)
-groups-turn file heads k h =
-    let e = drop-cons heads (suc k) 0 h in
-    ap (groupsIn file) (drop-cons heads k 0 (omega arith)) ∙ ap (groupsFrom file (getD heads k 0)) e ∙ ap (λ l. groupIn file (getD heads k 0) (getD heads (suc k) 0) ∷ groupsIn file l) (sym e)
-
-pub groups-end : (file heads : List ℕ) (k : ℕ) → length heads ≤ suc k → groupsIn file (drop k heads) ≡ []
-groups-end file [] k h = ap (groupsIn file) (drop-nil k)
-groups-end file (x ∷ []) zero h = refl
-groups-end file (x ∷ y ∷ heads) zero h = absurd (omega arith)
-groups-end file (x ∷ heads) (suc k) h = groups-end file heads k (omega arith)
+use Rattle.compose.proofs.Positions.{groups-end, groups-turn}
 
 length-from : (file : List ℕ) (head : ℕ) (rest : List ℕ) → length (groupsFrom file head rest) ≡ length rest
 length-from file head [] = refl

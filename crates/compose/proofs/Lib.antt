@@ -13,3 +13,7 @@ pub mod Found
 pub mod Stuck
 pub mod Forcing
 pub mod Chosen
+pub mod Kept
+pub mod Laid
+pub mod Narrowing
+pub mod Positions
