@@ -1,19 +1,20 @@
 -- Groups by the positions of their heads.
 use mathlib.Core.Bool.{false, true}
 use mathlib.Core.List.{List, [], _++_, _∷_, append-nil, foldl, foldl-append}
-use mathlib.Core.Path.{_∙_, _≡_, ap, ap₂, refl, sym}
+use mathlib.Core.Path.{_∙_, _≡_, ap, ap₂, refl, subst, sym}
 use Prim.Native.Nat.{_+_, _-_, _/_, _<_, _≤_, suc, zero, ℕ}
-use native.Mathlib.Decide.{ℕ-discrete}
+use native.Mathlib.Decide.{decLt}
 use native.Mathlib.Nat.{zero-add}
 use native.Mathlib.Numerals.{add-one}
 use native.Mathlib.Omega.{arith}
-use lib.ListN.{drop, drop-of-length-le, getD, length, length-set, set, take}
-use lib.Seq.{append-snoc, drop-cons, getD-set-other, getD-set-same, getD-take, length-take-le, take-suc-set}
+use lib.ListN.{drop, drop-of-length-le, getD, length, length-append, length-set, set, take}
+use lib.Seq.{append-snoc, drop-cons, getD-at, take-suc-set}
 use Rattle.lists.specs.Lists.{concatMap}
+use Rattle.lists.proofs.Lists.{getD-left}
 use Rattle.spec.specs.Kind.{isMember}
 use Rattle.spec.specs.Record.{Group, group, groups, memberRun, recordAt, recordsOf}
 use Rattle.spec.proofs.Fields.{length-records, records-from}
-use Rattle.spec.proofs.Runs.{run-end, run-front, run-more, run-stop, runLength}
+use Rattle.spec.proofs.Runs.{run-end, run-front, run-inside, run-more, run-stop, runLength}
 use Rattle.registry.specs.Code.{groupIn}
 use Rattle.compose.specs.Code.{Rising, groupsFrom, groupsIn}
 
@@ -64,44 +65,34 @@ groups-more file (x ∷ l) a b = from x l
     from head [] = refl
     from head (y ∷ l) = ap (λ (gs : List Group). groupIn file head y ∷ gs) (from y l)
 
+rising-more : (file l : List ℕ) (a b : ℕ) → Rising file (l ++ (a ∷ [])) → a < b → b ≤ length file / 32 → Rising file ((l ++ (a ∷ [])) ++ (b ∷ []))
+rising-more file l a b r lt le k h = go (decLt (suc k) (length xs))
+  where
+    xs : List ℕ
+    xs = l ++ (a ∷ [])
+
+    go : Dec (suc k < length xs) → (getD (xs ++ (b ∷ [])) k 0 < getD (xs ++ (b ∷ [])) (suc k) 0) × (getD (xs ++ (b ∷ [])) (suc k) 0 ≤ length file / 32)
+    go (yes q) = rw (getD-left xs (b ∷ []) 0 k refl (omega arith), getD-left xs (b ∷ []) 0 (suc k) refl q) (r k q)
+    go (no q) =
+        let long = length-append l (a ∷ []) in
+        let last : length xs ≡ suc k = omega (arith, length-append xs (b ∷ [])) in
+        rw (getD-left xs (b ∷ []) 0 k refl (omega arith) ∙ getD-at l a [] 0 k (omega arith), getD-at xs b [] 0 (suc k) last) (lt, le)
+
 -- The heads before record i stand in front, count of them, and the members at i go to the last of them.
 pub record Headed (file at : List ℕ) (count i : ℕ) : Type 0 where
   pub inside : i ≤ length file / 32
   pub wide : length at ≡ 290
   pub counted : count + length (groups (drop i (recordsOf file))) ≡ length (groups (recordsOf file))
   pub whole : groupsIn file (take count at ++ ((i + runLength file i) ∷ [])) ++ groups (drop i (recordsOf file)) ≡ groups (recordsOf file)
-  pub below : (k : ℕ) → k < count → getD at k 0 < i
-  pub rises : (k : ℕ) → suc k < count → getD at k 0 < getD at (suc k) 0
+  pub rising : Rising file (take count at ++ ((i + runLength file i) ∷ []))
 
 pub headed-none : (file at : List ℕ) → length at ≡ 290 → Headed file at 0 0
-headed-none file at e = record { inside = omega arith; wide = e; counted = zero-add (length (groups (recordsOf file))); whole = refl; below = λ k l. absurd (omega arith); rises = λ k l. absurd (omega arith) }
+headed-none file at e = record { inside = omega arith; wide = e; counted = zero-add (length (groups (recordsOf file))); whole = refl; rising = λ k l. absurd (omega arith) }
 
 module _ (file at : List ℕ) (count i : ℕ) (h : Headed file at count i) where
   -- the list with one position more
   put-head : (p : ℕ) → count < 290 → take (count + 1) (set at count p) ≡ take count at ++ (p ∷ [])
   put-head p l = let w = h .wide in ap (λ (n : ℕ). take n (set at count p)) (add-one count) ∙ take-suc-set at count p (omega arith)
-
-  -- the positions before it stay
-  kept-at : (p k : ℕ) → k < count → getD (set at count p) k 0 ≡ getD at k 0
-  kept-at p k l = getD-set-other at count k p 0 (λ e. absurd (omega arith))
-
-  put-at : (p k : ℕ) → count < 290 → k ≡ count → getD (set at count p) k 0 ≡ p
-  put-at p k l e = let w = h .wide in rw e (getD-set-same at count p 0 (omega arith))
-
-  -- so they rise up to it
-  put-below : (p q : ℕ) → i ≤ p → p < q → count < 290 → (k : ℕ) → k < count + 1 → getD (set at count p) k 0 < q
-  put-below p q a b l k m = go (ℕ-discrete k count)
-    where
-      go : Dec (k ≡ count) → getD (set at count p) k 0 < q
-      go (yes e) = rw (put-at p k l e) b
-      go (no e) = let o : k < count = omega arith in rw (kept-at p k o) (let r = h .below k o in omega arith)
-
-  put-rises : (p : ℕ) → i ≤ p → count < 290 → (k : ℕ) → suc k < count + 1 → getD (set at count p) k 0 < getD (set at count p) (suc k) 0
-  put-rises p a l k m = go (ℕ-discrete (suc k) count)
-    where
-      go : Dec (suc k ≡ count) → getD (set at count p) k 0 < getD (set at count p) (suc k) 0
-      go (yes e) = let r = h .below k (omega arith) in rw (kept-at p k (omega arith), put-at p (suc k) l e) (omega arith)
-      go (no e) = let o : suc k < count = omega arith in rw (kept-at p k (omega arith), kept-at p (suc k) o) (h .rises k o)
 
   module _ (l : i < length file / 32) where
     pub headed-member : isMember (recordAt file i .kind) ≡ true → Headed file at count (i + 1)
@@ -113,8 +104,7 @@ module _ (file at : List ℕ) (count i : ℕ) (h : Headed file at count i) where
           wide = h .wide;
           counted = ap (λ (gs : List Group). count + length gs) (sym rest) ∙ h .counted;
           whole = ap₂ (λ (p : ℕ) (gs : List Group). groupsIn file (take count at ++ (p ∷ [])) ++ gs) (sym next) (sym rest) ∙ h .whole;
-          below = λ k m. let r = h .below k m in omega arith;
-          rises = h .rises;
+          rising = subst (λ (p : ℕ). Rising file (take count at ++ (p ∷ []))) next (h .rising);
         }
 
     pub headed-head : isMember (recordAt file i .kind) ≡ false → length (groups (recordsOf file)) ≤ 289 → Headed file (set at count i) (count + 1) (i + 1)
@@ -136,8 +126,7 @@ module _ (file at : List ℕ) (count i : ℕ) (h : Headed file at count i) where
               ∙ append-snoc (groupsIn file (take count at ++ (i ∷ []))) (groupIn file i end) (groups (drop (i + 1) (recordsOf file)))
               ∙ ap₂ (λ (p : ℕ) (g : Group). groupsIn file (take count at ++ (p ∷ [])) ++ (g ∷ groups (drop (i + 1) (recordsOf file)))) (sym at-i) here
               ∙ ap (λ (gs : List Group). groupsIn file (take count at ++ ((i + runLength file i) ∷ [])) ++ gs) (sym rest) ∙ h .whole;
-          below = put-below i (i + 1) (omega arith) (omega arith) (omega arith);
-          rises = put-rises i (omega arith) (omega arith);
+          rising = subst (λ (ps : List ℕ). Rising file (ps ++ (end ∷ []))) (sym (put-head i (omega arith))) (rising-more file (take count at) i end (subst (λ (p : ℕ). Rising file (take count at ++ (p ∷ []))) at-i (h .rising)) (omega arith) (run-inside file (i + 1) (omega arith)));
         }
 
   -- after the last record
@@ -148,20 +137,16 @@ module _ (file at : List ℕ) (count i : ℕ) (h : Headed file at count i) where
     pub headed-count : count ≡ length (groups (recordsOf file))
     headed-count = let before = h .counted in omega (arith, ap length groups-past)
 
-    pub headed-end : length (groups (recordsOf file)) ≤ 289 → groupsIn file (take (count + 1) (set at count (length file / 32))) ≡ groups (recordsOf file)
-    headed-end few =
+    -- the list with the end of the file
+    put-end : length (groups (recordsOf file)) ≤ 289 → take (count + 1) (set at count (length file / 32)) ≡ take count at ++ ((i + runLength file i) ∷ [])
+    put-end few =
         let most = h .inside in
         let c = headed-count in
         let at-end : length file / 32 ≡ i + runLength file i = omega (arith, run-end file i l) in
-        ap (groupsIn file) (put-head (length file / 32) (omega arith)) ∙ ap (λ (p : ℕ). groupsIn file (take count at ++ (p ∷ []))) at-end
-        ∙ sym (append-nil _) ∙ ap (λ (gs : List Group). groupsIn file (take count at ++ ((i + runLength file i) ∷ [])) ++ gs) (sym groups-past) ∙ h .whole
+        put-head (length file / 32) (omega arith) ∙ ap (λ (p : ℕ). take count at ++ (p ∷ [])) at-end
+
+    pub headed-end : length (groups (recordsOf file)) ≤ 289 → groupsIn file (take (count + 1) (set at count (length file / 32))) ≡ groups (recordsOf file)
+    headed-end few = ap (groupsIn file) (put-end few) ∙ sym (append-nil _) ∙ ap (λ (gs : List Group). groupsIn file (take count at ++ ((i + runLength file i) ∷ [])) ++ gs) (sym groups-past) ∙ h .whole
 
     pub headed-rising : length (groups (recordsOf file)) ≤ 289 → Rising file (take (count + 1) (set at count (length file / 32)))
-    headed-rising few k m =
-        let c = headed-count in
-        let n = length file / 32 in
-        let w = length-set at count n ∙ h .wide in
-        let long = length-take-le (count + 1) (set at count n) (omega arith) in
-        let up = put-rises n (h .inside) (omega arith) k (omega arith) in
-        let most = put-below n (suc n) (h .inside) (omega arith) (omega arith) (suc k) (omega arith) in
-        rw (getD-take (count + 1) (set at count n) k 0 (omega arith), getD-take (count + 1) (set at count n) (suc k) 0 (omega arith)) (up, omega arith)
+    headed-rising few = subst (Rising file) (sym (put-end few)) (h .rising)

@@ -77,10 +77,8 @@ array-write-at-2 c =
 returns : tie.Need-returns Inv-loop μ-loop
 returns c =
     let s = c .before .before .before in
-    let l = c .before .loop in (
-      headed-count (s .args .file .now) (l .at) (l .count) (l .i) (l .inv) (omega arith),
-      (headed-end (s .args .file .now) (l .at) (l .count) (l .i) (l .inv) (omega arith) (s .pre), headed-rising (s .args .file .now) (l .at) (l .count) (l .i) (l .inv) (omega arith) (s .pre)),
-    )
+    let l = c .before .loop in
+    (headed-count (s .args .file .now) (l .at) (l .count) (l .i) (l .inv) (omega arith), (headed-end (s .args .file .now) (l .at) (l .count) (l .i) (l .inv) (omega arith) (s .pre), headed-rising (s .args .file .now) (l .at) (l .count) (l .i) (l .inv) (omega arith) (s .pre)))
 
 pub heads-of-spec : {M : Type 1} → statement M
 heads-of-spec =
