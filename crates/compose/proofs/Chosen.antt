@@ -178,7 +178,7 @@ marks-all e enableMask h ms = refl
 marks-all e bitmask h ms = refl
 marks-all e enableSet h ms = refl
 
-kind-beyond : (n : ℕ) → 34 ≤ n → kindOf n ≡ unknown
+pub kind-beyond : (n : ℕ) → 34 ≤ n → kindOf n ≡ unknown
 unfolding kindOf
 kind-beyond n h = rw (off 1 tt, off 2 tt, off 3 tt, off 4 tt, off 5 tt, off 6 tt, off 7 tt, off 8 tt, off 10 tt, off 11 tt, off 12 tt, off 13 tt, off 14 tt, off 15 tt, off 16 tt, off 17 tt, off 18 tt, off 19 tt, off 20 tt, off 21 tt, off 22 tt, off 30 tt, off 31 tt, off 32 tt, off 33 tt)
   where

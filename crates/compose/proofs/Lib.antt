@@ -17,3 +17,10 @@ pub mod Kept
 pub mod Laid
 pub mod Narrowing
 pub mod Positions
+pub mod Grouped
+pub mod Opening
+pub mod Planning
+pub mod Packed
+pub mod Bounds
+pub mod Keys
+pub mod Stepping
