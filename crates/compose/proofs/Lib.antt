@@ -24,3 +24,4 @@ pub mod Packed
 pub mod Bounds
 pub mod Keys
 pub mod Stepping
+pub mod Prepared
