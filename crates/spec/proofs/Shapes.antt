@@ -175,7 +175,7 @@ pub field-kind : kindOf 1 ≡ field
 unfolding kindOf
 field-kind = refl
 
-length-domain : (form : ℕ) (h : Record) (ms : List Record) → lengthBy form h (length ms) ≡ length (domain (fieldBy form h ms))
+pub length-domain : (form : ℕ) (h : Record) (ms : List Record) → lengthBy form h (length ms) ≡ length (domain (fieldBy form h ms))
 length-domain zero h ms = sym (length-multiples (stepOf (natAbs (h .r))) (pos 0) (pos 255))
 length-domain (suc zero) h ms = sym (length-multiples (stepOf (natAbs (h .r))) (h .p) (h .q))
 length-domain (suc (suc k)) h ms = sym (length-map ms (λ m. m .p))

@@ -1,0 +1,80 @@
+-- `compose::filters::narrow_by` meets its contract: a record of another kind, or of another field, narrows nothing.
+use mathlib.Core.Bool.{Bool, _&&_, false, true}
+use mathlib.Core.List.{List}
+use mathlib.Core.Path.{_∙_, _≡_, ap, subst, sym}
+use native.Mathlib.Numerals.{add-one}
+use native.Mathlib.Omega.{arith}
+use borrow.Author.Needs.{needs}
+use borrow.Author.Tests.{not-false, not-true}
+use lib.Dec.{eqb}
+use lib.IntN.{ℤ}
+use lib.ListN.{length}
+use Rattle.lists.proofs.Tests.{and-false, and-join, eqb-no, eqb-yes}
+use Rattle.spec.specs.Kind.{kindOf}
+use Rattle.spec.specs.Record.{Record}
+use Rattle.registry.specs.Code.{maskIn, testIn}
+use Rattle.compose.specs.Code.{keptBy, narrowsKind, over}
+use Rattle.compose.proofs.Narrowing.{narrowed-is, over-same}
+use Rattle.compose.proofs.filters.narrow_by.Statement.{statement}
+use Rattle.compose.proofs.filters.narrow_by.Tie as tie
+
+record-at-requires : tie.Need-record-at-requires
+record-at-requires c κs = let b = c .before .pre .before in let i = c .before .pre .inside in omega arith
+
+is-filter-requires : tie.Need-is-filter-requires
+is-filter-requires c κs = search needs
+
+returns : tie.Need-returns
+returns c =
+    let s = c .before .before .before .before in
+    let h = c .before .before .record-at .result in
+    let l = s .args .list .now in
+    over-same _ l (narrowed-is h (s .args .file .now) (s .args .head) (s .args .end) (s .args .f) l false (c .before .before .record-at .ensures .0) (ap (λ (b : Bool). b && eqb (h .a) (s .args .f)) (sym (c .before .is-filter .ensures) ∙ not-true _ (c .if1 .taken))))
+
+returns-2 : tie.Need-returns-2
+returns-2 c =
+    let s = c .before .before .before .before .before .before in
+    let h = c .before .before .before .before .record-at .result in
+    let l = s .args .list .now in
+    let narrowing = narrowsKind (kindOf (h .code)) in
+    over-same _ l (narrowed-is h (s .args .file .now) (s .args .head) (s .args .end) (s .args .f) l false (c .before .before .before .before .record-at .ensures .0) (ap (λ (b : Bool). narrowing && b) (eqb-no (h .a) (s .args .f) (c .if2 .taken)) ∙ and-false narrowing))
+
+add-part : tie.Need-add-part
+add-part c = let b = c .before .before .before .before .before .before .before .pre .before in omega arith
+
+part-requires : tie.Need-part-requires
+part-requires c κs =
+    let b = c .before .before .before .before .before .before .before .pre .before in
+    (omega arith, c .before .before .before .before .before .before .before .pre .inside)
+
+narrow-requires : tie.Need-narrow-requires
+narrow-requires c κs = subst (λ r. maskIn (r .kind) (r .p) ≡ true) (sym (c .before .before .before .before .before .before .record-at .ensures .0)) (c .before .before .before .before .before .before .before .before .pre .mask)
+
+same-length : tie.Need-same-length
+same-length c = search needs
+
+returns-3 : tie.Need-returns-3
+returns-3 c =
+    let s = c .before .before .before .before .before .before .before .before .before .before in
+    let h = c .before .before .before .before .before .before .before .before .record-at .result in
+    let l = s .args .list .now in
+    let e = c .before .narrow .ensures in
+    let ms = rw (add-one (s .args .head)) at (c .before .before .part .ensures .1) in
+    let k =
+    ap (λ (z : List Record). keptBy (testIn (kindOf (h .code)) (h .p) (h .q) z) l) ms
+    ∙ sym (narrowed-is h (s .args .file .now) (s .args .head) (s .args .end) (s .args .f) l true (c .before .before .before .before .before .before .before .before .record-at .ensures .0) (and-join (sym (c .before .before .before .before .before .before .before .is-filter .ensures) ∙ not-false _ (c .before .before .before .before .before .before .if1 .left)) (eqb-yes (h .a) (s .args .f) (c .before .before .before .before .if2 .left)))) in
+    (e .0 ∙ ap length k, e .1 ∙ ap (λ (z : List ℤ). over z l) k)
+
+pub narrow-by-spec : {M : Type 1} → statement M
+narrow-by-spec =
+    tie.close
+    (tie.spec
+    record-at-requires
+    is-filter-requires
+    returns
+    returns-2
+    add-part
+    part-requires
+    narrow-requires
+    same-length
+    returns-3)

@@ -1,0 +1,194 @@
+// The lists of the fields, laid into the lent scratch: each domain, narrowed in place.
+use registry::check::meets;
+use spec::domains::domain_len;
+use spec::domains::domain_value;
+use spec::domains::part;
+use spec::numbers::Index;
+use spec::numbers::Value;
+use spec::records::Record;
+use spec::records::record_at;
+ghost use mathlib.Core.Path.{_≡_};
+ghost use mathlib.Core.Bool.{true};
+ghost use mathlib.Core.List.{foldl, map};
+ghost use Prim.Native.Nat.{suc, _≤_, _<_};
+ghost use lib.IntN.{pos};
+ghost use lib.ListN.{length, getD, take, replicate};
+ghost use Rattle.lists.specs.Lists.{any, concatMap, filter, orElse, sumN};
+ghost use Rattle.spec.specs.Code.{asRecord, InScale};
+ghost use Rattle.spec.specs.Domain.{domain};
+ghost use Rattle.spec.specs.Kind.{kindOf};
+ghost use Rattle.spec.specs.Record.{constraintOf, fieldBy, fieldOf, recordsOf};
+ghost use Rattle.registry.specs.Code.{groupIn, HeadIn, maskIn, passes, testIn};
+ghost use Rattle.compose.specs.Maps.{allowed, narrowBy};
+ghost use Rattle.compose.specs.Code.{constraintsIn, fieldsIn, FieldIn, FieldsIn, HeadsIn, keptBy, listPlaces, listsBy, narrowsKind, over, packedLists};
+
+// Zeros.
+pub fn clear(list: &mut [i64])
+    ensures { λ _. ⌜ now (list .exit) ≡ replicate (length (now (list .entry))) (pos 0) ⌝ }
+{
+    let mut i = 0;
+    while i < list.len() {
+        list[i] = 0;
+        i += 1;
+    }
+}
+
+// Lays the domain of field h, whose values are the records given.
+pub fn lay_domain(h: Record, values: &[u8], list: &mut [i64])
+    requires { ⌜ InScale (h .p) (h .q) (h .r) × (length (now list) ≡ length (domain (fieldBy (h .b) (asRecord h) (recordsOf (now values))))) ⌝ }
+    ensures { λ _. ⌜ now (list .exit) ≡ domain (fieldBy (h .b) (asRecord h) (recordsOf (now (values .entry)))) ⌝ }
+{
+    let mut i = 0;
+    while i < list.len() {
+        let v = domain_value(h, values, Index(i));
+        let x = v.0;
+        list[i] = x;
+        i += 1;
+    }
+}
+
+// Whether some value meets the test of head h.
+fn any_meets(list: &[i64], h: Record, run: &[u8]) -> bool
+    requires { ⌜ maskIn (kindOf (h .code)) (h .p) ≡ true ⌝ }
+    ensures { λ r. ⌜ r ≡ any (passes (testIn (kindOf (h .code)) (h .p) (h .q) (recordsOf (now (run .entry))))) (now (list .entry)) ⌝ }
+{
+    let mut i = 0;
+    while i < list.len() {
+        let x = list[i];
+        if meets(h.code, h.p, h.q, run, Value(x)) {
+            return true;
+        }
+        i += 1;
+    }
+    false
+}
+
+// Moves the values that meet the test to the front; how many they are.
+fn compact(list: &mut [i64], h: Record, run: &[u8]) -> usize
+    requires { ⌜ maskIn (kindOf (h .code)) (h .p) ≡ true ⌝ }
+    ensures count { λ r. ⌜ r ≡ length (filter (passes (testIn (kindOf (h .code)) (h .p) (h .q) (recordsOf (now (run .entry))))) (now (list .entry))) ⌝ }
+    ensures left { λ r. ⌜ now (list .exit) ≡ over (filter (passes (testIn (kindOf (h .code)) (h .p) (h .q) (recordsOf (now (run .entry))))) (now (list .entry))) (now (list .entry)) ⌝ }
+{
+    let mut w = 0;
+    let mut i = 0;
+    while i < list.len() {
+        let x = list[i];
+        if meets(h.code, h.p, h.q, run, Value(x)) {
+            list[w] = x;
+            w += 1;
+        }
+        i += 1;
+    }
+    w
+}
+
+// Keeps the values that meet the test, or all where none does; how many are kept.
+fn narrow(list: &mut [i64], h: Record, run: &[u8]) -> usize
+    requires { ⌜ maskIn (kindOf (h .code)) (h .p) ≡ true ⌝ }
+    ensures count { λ r. ⌜ r ≡ length (keptBy (testIn (kindOf (h .code)) (h .p) (h .q) (recordsOf (now (run .entry)))) (now (list .entry))) ⌝ }
+    ensures left { λ r. ⌜ now (list .exit) ≡ over (keptBy (testIn (kindOf (h .code)) (h .p) (h .q) (recordsOf (now (run .entry)))) (now (list .entry))) (now (list .entry)) ⌝ }
+{
+    if any_meets(&list[..], h, run) {
+        compact(list, h, run)
+    } else {
+        list.len()
+    }
+}
+
+// The kinds that narrow a list: range, oneof, bitmask.
+fn is_filter(code: u8) -> bool
+    ensures { λ r. ⌜ r ≡ narrowsKind (kindOf code) ⌝ }
+{
+    match code {
+        0..=9 => false,
+        10 => true,
+        11..=17 => false,
+        18 => true,
+        19..=20 => false,
+        21 => true,
+        22..=255 => false,
+    }
+}
+
+// Narrows the list of field f by the constraint at record head; how many values are kept.
+fn narrow_by(file: &[u8], head: usize, end: usize, f: usize, list: &mut [i64]) -> usize
+    requires { ⌜ HeadIn (now file) head end 32 ⌝ }
+    ensures count { λ r. ⌜ r ≡ length (foldl (narrowBy f) (now (list .entry)) (constraintOf (groupIn (now (file .entry)) head end))) ⌝ }
+    ensures left { λ r. ⌜ now (list .exit) ≡ over (foldl (narrowBy f) (now (list .entry)) (constraintOf (groupIn (now (file .entry)) head end))) (now (list .entry)) ⌝ }
+{
+    let h = record_at(file, head);
+    if !is_filter(h.code) {
+        return list.len();
+    }
+    if h.a != f {
+        return list.len();
+    }
+    narrow(list, h, part(file, head + 1, end))
+}
+
+// Narrows it by each constraint, in file order.
+fn narrow_all(file: &[u8], heads: &[usize], f: usize, list: &mut [i64]) -> usize
+    requires { ⌜ HeadsIn (now file) (now heads) 32 ⌝ }
+    ensures count { λ r. ⌜ r ≡ length (foldl (narrowBy f) (now (list .entry)) (constraintsIn (now (file .entry)) (now (heads .entry)))) ⌝ }
+    ensures front { λ r. ⌜ take r (now (list .exit)) ≡ foldl (narrowBy f) (now (list .entry)) (constraintsIn (now (file .entry)) (now (heads .entry))) ⌝ }
+{
+    let mut len = list.len();
+    let mut k = 1;
+    while k < heads.len() {
+        len = narrow_by(file, heads[k - 1], heads[k], f, &mut list[..len]);
+        k += 1;
+    }
+    len
+}
+
+// Lays the allowed list of the field at record head, which is field f; its length.
+fn lay_list(
+    file: &[u8],
+    head: usize,
+    end: usize,
+    heads: &[usize],
+    f: usize,
+    list: &mut [i64],
+) -> usize
+    requires { ⌜ FieldIn (now file) head end × HeadsIn (now file) (now heads) 32 × (sumN (map (λ d. length (domain d)) (fieldOf (groupIn (now file) head end))) ≤ length (now list)) ⌝ }
+    ensures count { λ r. ⌜ r ≡ length (concatMap (λ d. allowed (constraintsIn (now (file .entry)) (now (heads .entry))) f d) (fieldOf (groupIn (now (file .entry)) head end))) ⌝ }
+    ensures front { λ r. ⌜ take r (now (list .exit)) ≡ concatMap (λ d. allowed (constraintsIn (now (file .entry)) (now (heads .entry))) f d) (fieldOf (groupIn (now (file .entry)) head end)) ⌝ }
+{
+    let h = record_at(file, head);
+    let values = part(file, head + 1, end);
+    let len = domain_len(h, values.len() / 32);
+    lay_domain(h, values, &mut list[..len]);
+    narrow_all(file, heads, f, &mut list[..len])
+}
+
+// Lays the lists of the fields one behind the other, by the constraints given, and zeros to the end: where list f starts at f, its length at 32 + f.
+pub fn lay_lists(
+    file: &[u8],
+    fields: &[usize],
+    constraints: &[usize],
+    scratch: &mut [i64],
+) -> [usize; 64]
+    requires { ⌜ (length (now fields) ≤ 33) × FieldsIn (now file) (now fields) × HeadsIn (now file) (now constraints) 32 × (sumN (map (λ d. length (domain d)) (fieldsIn (now file) (now fields))) ≤ length (now scratch)) ⌝ }
+    ensures scratch { λ r. ⌜ now (scratch .exit) ≡ packedLists (listsBy (constraintsIn (now (file .entry)) (now (constraints .entry))) (fieldsIn (now (file .entry)) (now (fields .entry)))) (length (now (scratch .entry))) ⌝ }
+    ensures lists { λ r. ⌜ r ≡ listPlaces (map length (listsBy (constraintsIn (now (file .entry)) (now (constraints .entry))) (fieldsIn (now (file .entry)) (now (fields .entry))))) ⌝ }
+{
+    let mut lists = [0usize; 64];
+    let mut at = 0;
+    let mut k = 1;
+    while k < fields.len() {
+        let len = lay_list(
+            file,
+            fields[k - 1],
+            fields[k],
+            constraints,
+            k - 1,
+            &mut scratch[at..],
+        );
+        lists[k - 1] = at;
+        lists[31 + k] = len;
+        at += len;
+        k += 1;
+    }
+    clear(&mut scratch[at..]);
+    lists
+}
