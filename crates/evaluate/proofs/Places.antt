@@ -1,16 +1,16 @@
 -- The place of a row, by the fields and by the constraints that fail.
-use mathlib.Core.Bool.{Bool, _&&_, and-true, cond, false, true}
+use mathlib.Core.Bool.{Bool, and-true, cond, false, true}
 use mathlib.Core.List.{List, [], _++_, _∷_, map}
 use mathlib.Core.Path.{_∙_, _≡_, ap, ap₂, refl, sym}
-use Prim.Native.Nat.{_+_, _-_, _<_, _≤_, suc, zero, ℕ}
+use Prim.Native.Nat.{_+_, _-_, _≤_, suc, zero, ℕ}
 use native.Mathlib.Numerals.{add-one}
 use native.Mathlib.Omega.{arith}
 use lib.IntN.{ℤ}
 use lib.ListN.{drop, getD, length, length-append, length-drop}
-use Rattle.lists.specs.Lists.{all, concatMap, firstFalse, further, placeAt, span, upto}
+use Rattle.lists.specs.Lists.{all, concatMap, firstFalse, placeAt, span, upto}
 use Rattle.lists.proofs.First.{firstFalse-append, orShift, shift}
 use Rattle.spec.specs.Kind.{Kind, constraint, field, member, projector, unknown}
-use Rattle.spec.specs.Record.{Group, Record, constraintIn, constraintOf, group}
+use Rattle.spec.specs.Record.{Group, constraintIn, constraintOf, group}
 use Rattle.spec.specs.Spec.{ConstraintSpec, Spec}
 use Rattle.registry.specs.Check.{holds}
 use Rattle.registry.specs.Code.{groupIn}

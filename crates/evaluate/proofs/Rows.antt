@@ -1,5 +1,5 @@
--- The checks of a row's fields, one by one, and of rows that no field was forced in.
-use mathlib.Core.Bool.{Bool, _&&_, false, true}
+-- The checks of the fields of a row, one by one, and of a row of values from the lists.
+use mathlib.Core.Bool.{Bool, false, true}
 use mathlib.Core.List.{List, [], _++_, _∷_, map}
 use mathlib.Core.Path.{_∙_, _≡_, ap, ap₂, refl, subst, sym}
 use Prim.Native.Nat.{_+_, _-_, _<_, _≤_, suc, zero, ℕ}
@@ -9,12 +9,12 @@ use native.Mathlib.Omega.{arith}
 use lib.IntN.{pos, ℤ}
 use lib.ListN.{drop, getD, length, take}
 use lib.Seq.{drop-cons}
-use Rattle.lists.specs.Lists.{all, concatMap, firstFalse, further, mapFrom, placeAt}
+use Rattle.lists.specs.Lists.{concatMap, firstFalse, further, mapFrom, placeAt}
 use Rattle.lists.proofs.All.{All, All-at}
 use Rattle.spec.specs.Code.{asRecord}
 use Rattle.spec.specs.Domain.{allows, domain, domains}
 use Rattle.spec.specs.Record.{Group, fieldBy, fieldOf, recordAt, recordsOf}
-use Rattle.spec.specs.Spec.{ConstraintSpec, FieldSpec, Spec}
+use Rattle.spec.specs.Spec.{FieldSpec, Spec}
 use Rattle.spec.specs.declared.records.Record as code
 use Rattle.spec.proofs.Domain.{domain-allowed}
 use Rattle.spec.proofs.Named.{width}

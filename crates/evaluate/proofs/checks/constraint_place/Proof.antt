@@ -1,6 +1,5 @@
 -- `evaluate::checks::constraint_place` meets its contract.
-use mathlib.Core.Path.{_∙_, _≡_, ap, sym}
-use Prim.Native.Nat.{_≤_}
+use mathlib.Core.Path.{_∙_, ap, sym}
 use native.Mathlib.Omega.{arith}
 use borrow.Author.Needs.{needs}
 use lib.ListN.{length}

@@ -1,11 +1,11 @@
 -- `evaluate::checks::failing_field` meets its contract. The invariant: the first that fails is the first of those from f on, behind f others.
-use mathlib.Core.Path.{_∙_, _≡_, ap, refl, sym}
-use Prim.Native.Nat.{_-_, _<_, _≤_, suc}
+use mathlib.Core.Path.{_∙_, _≡_, ap, sym}
+use Prim.Native.Nat.{_-_, _≤_, suc}
 use native.Mathlib.Numerals.{add-one}
 use native.Mathlib.Omega.{arith}
 use borrow.Author.Needs.{needs, sfits-of}
 use borrow.Author.Tests.{not-false, not-true}
-use lib.IntN.{pos, ℤ}
+use lib.IntN.{pos}
 use lib.ListN.{drop, getD, length}
 use mir.Syntax.{w64}
 use mir.ValLaws.{toZ-ofZ}

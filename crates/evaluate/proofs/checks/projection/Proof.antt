@@ -1,6 +1,6 @@
 -- `evaluate::checks::projection` meets its contract.
 use mathlib.Core.Option.{Option, none}
-use mathlib.Core.Path.{_∙_, _≡_, ap, refl, sym}
+use mathlib.Core.Path.{_≡_, refl}
 use Prim.Native.Nat.{suc, zero, ℕ}
 use borrow.Author.Needs.{needs}
 use lib.IntN.{ℤ}
