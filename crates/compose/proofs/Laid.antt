@@ -35,7 +35,7 @@ module _ (h : code.Record) (file values : List ℕ) (head end : ℕ) (is : Field
   abbrev fieldHere : FieldSpec
   fieldHere = fieldBy (h .b) (asRecord h) (recordsOf values)
 
-  field-here : fieldOf (groupIn file head end) ≡ fieldHere ∷ []
+  pub field-here : fieldOf (groupIn file head end) ≡ fieldHere ∷ []
   field-here = field-group file head end is ∙ ap₂ (λ (r : Record) (l : List Record). fieldBy (r .b) r l ∷ []) (sym e) (sym ms)
 
   pub field-length : domainLength (asRecord h) (length values / 32) ≡ length (domain fieldHere)

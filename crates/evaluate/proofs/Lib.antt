@@ -1,1 +1,5 @@
 pub mod Place
+pub mod Chosen
+pub mod Rows
+pub mod Places
+pub mod Due

@@ -1,0 +1,74 @@
+// The place of a row and its projection.
+use registry::check::check;
+use registry::project::Projection;
+use registry::project::project;
+use spec::domains::allows_value;
+use spec::domains::part;
+use spec::numbers::Value;
+use spec::records::record_at;
+ghost use mathlib.Core.Path.{_≡_};
+ghost use mathlib.Core.List.{_++_, map};
+ghost use Prim.Native.Nat.{suc, _+_, _/_, _≤_, _<_};
+ghost use lib.ListN.{length};
+ghost use Rattle.lists.specs.Lists.{firstFalse};
+ghost use Rattle.registry.specs.Code.{asProjection, groupIn, ProjectorIn, projectOf, RowIn};
+ghost use Rattle.compose.specs.Code.{fieldsIn, FieldsIn};
+ghost use Rattle.evaluate.specs.Verdict.{fieldChecks, ifPassed};
+ghost use Rattle.evaluate.specs.Code.{behind, ChecksIn, firstChosen, holdsAt};
+
+// The first field whose check fails, counted from 1; 0 if none does.
+pub fn failing_field(file: &[u8], fields: &[usize], row: &[i64]) -> usize
+    requires { ⌜ FieldsIn (now file) (now fields) × (length (now fields) ≡ suc (length (now row))) ⌝ }
+    ensures { λ r. ⌜ r ≡ firstFalse (fieldChecks (fieldsIn (now (file .entry)) (now (fields .entry))) (now (row .entry))) ⌝ }
+{
+    let mut f = 0;
+    while f < row.len() {
+        let head = fields[f];
+        let h = record_at(file, head);
+        let values = part(file, head + 1, fields[f + 1]);
+        if !allows_value(h, values, Value(row[f])) {
+            return f + 1;
+        }
+        f += 1;
+    }
+    0
+}
+
+// The first of the constraints chosen whose check fails, by its number counted from 1; 0 if none does.
+pub fn failing_constraint(file: &[u8], heads: &[usize], chosen: &[usize], row: &[i64]) -> usize
+    requires { ⌜ ChecksIn (now file) (now heads) (now chosen) (length (now row)) ⌝ }
+    ensures { λ r. ⌜ r ≡ firstChosen (holdsAt (now (file .entry)) (now (heads .entry)) (now (row .entry))) (now (chosen .entry)) ⌝ }
+{
+    let mut j = 0;
+    while j < chosen.len() {
+        let k = chosen[j];
+        if !check(file, heads[k], heads[k + 1], row) {
+            return k + 1;
+        }
+        j += 1;
+    }
+    0
+}
+
+// The place of a row whose field checks pass: it is asked about the constraints chosen.
+pub fn constraint_place(file: &[u8], heads: &[usize], chosen: &[usize], row: &[i64]) -> usize
+    requires { ⌜ ChecksIn (now file) (now heads) (now chosen) (length (now row)) × (length (now row) ≤ 32) × (length (now heads) ≤ 290) ⌝ }
+    ensures { λ r. ⌜ r ≡ behind (length (now (row .entry))) (firstChosen (holdsAt (now (file .entry)) (now (heads .entry)) (now (row .entry))) (now (chosen .entry))) ⌝ }
+{
+    let k = failing_constraint(file, heads, chosen, row);
+    if k == 0 {
+        return 0;
+    }
+    row.len() + k
+}
+
+// The projection of a row that passed.
+pub fn projection(file: &[u8], projector: usize, row: &[i64], place: usize) -> Projection
+    requires { ⌜ RowIn (now row) × ProjectorIn (now file) projector (length (now row)) ⌝ }
+    ensures { λ r. ⌜ asProjection r ≡ ifPassed place (projectOf (groupIn (now (file .entry)) projector (length (now (file .entry)) / 32)) (now (row .entry))) ⌝ }
+{
+    if place == 0 {
+        return project(file, projector, row);
+    }
+    Projection::Nothing
+}
