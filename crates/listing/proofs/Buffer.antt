@@ -1,11 +1,17 @@
 -- Text put into a buffer piece by piece.
+use mathlib.Core.Bool.{Bool, _&&_, false, true}
 use mathlib.Core.List.{List, [], _++_, _∷_}
-use mathlib.Core.Path.{_∙_, _≡_, ap, sym}
+use mathlib.Core.Path.{_∙_, _≡_, ap, refl, sym}
 use Prim.Native.Nat.{_+_, _<_, _≤_, suc, ℕ}
+use native.Mathlib.Numerals.{add-one}
 use native.Mathlib.Omega.{arith}
-use lib.ListN.{drop, getD, length, set, take, drop-of-length-le}
+use lib.Dec.{leb}
+use lib.ListN.{drop, getD, length, length-append, set, take, drop-of-length-le}
 use lib.Seq.{drop-cons, length-sets, sets, sets-eq, take-append-seam}
 use Rattle.io.specs.Counts.{Counts}
+use Rattle.lists.specs.Lists.{concatMap}
+use Rattle.lists.proofs.Tests.{and-false, and-join, leb-no, leb-yes}
+use Rattle.listing.specs.Words.{hasRoom}
 
 -- Two pieces, one after the other.
 pub sets-append : (l : List ℕ) (i : ℕ) (a b : List ℕ) → sets (sets l i a) (i + length a) b ≡ sets l i (a ++ b)
@@ -42,3 +48,33 @@ put-first l₀ l₁ text n put end room =
     in
     let long = ap (λ (l : List ℕ). length l) stands in
     ((omega arith, omega arith), stands)
+
+-- ---- text put in a loop
+-- With the rest put at `next`, the buffer holds the whole, which ends at `end`.
+abbrev pub Left : (whole : List ℕ) (end : ℕ) (buffer : List ℕ) (next : ℕ) (rest : List ℕ) → Type 0
+Left whole end buffer next rest = (sets buffer next rest ≡ whole) × (next + length rest ≡ end)
+
+-- One more piece.
+pub left-more : (whole : List ℕ) (end : ℕ) (l l′ : List ℕ) (next next′ : ℕ) (piece rest left : List ℕ)
+    → left ≡ piece ++ rest → l′ ≡ sets l next piece → next′ ≡ next + length piece → Left whole end l next left → Left whole end l′ next′ rest
+left-more whole end l l′ next next′ piece rest left parts put place (same, ends) =
+    let both = ap (λ (t : List ℕ). length t) parts in
+    let sum = length-append piece rest in
+    (put-after l l′ (sets l′ next′ rest) next next′ piece rest put place refl ∙ sym (ap (λ (t : List ℕ). sets l next t) parts) ∙ same, omega arith)
+
+-- The text from element i on: that of the element, and the rest.
+pub pieces-more : {A : Type 0} (f : A → List ℕ) (xs : List A) (i : ℕ) (default : A) → i < length xs → concatMap f (drop i xs) ≡ f (getD xs i default) ++ concatMap f (drop (i + 1) xs)
+pieces-more f xs i default h = rw (add-one i) (ap (λ l. concatMap f l) (drop-cons xs i default h))
+
+-- Nothing is left.
+pub left-end : (whole : List ℕ) (end : ℕ) (l : List ℕ) (next : ℕ) (rest : List ℕ) → rest ≡ [] → Left whole end l next rest → (l ≡ whole) × (next ≡ end)
+left-end whole end l next rest none (same, ends) =
+    let long = ap (λ (t : List ℕ). length t) none in
+    (sym (ap (λ (t : List ℕ). sets l next t) none) ∙ same, omega arith)
+
+-- ---- room
+pub room-yes : (buffer : List ℕ) (at bytes : ℕ) → at + bytes ≤ length buffer → hasRoom buffer at bytes ≡ true
+room-yes buffer at bytes h = and-join (leb-yes at (length buffer) (omega arith)) (leb-yes (at + bytes) (length buffer) h)
+
+pub room-no : (buffer : List ℕ) (at bytes : ℕ) → length buffer < at + bytes → hasRoom buffer at bytes ≡ false
+room-no buffer at bytes h = ap (λ (b : Bool). leb at (length buffer) && b) (leb-no (at + bytes) (length buffer) h) ∙ and-false (leb at (length buffer))

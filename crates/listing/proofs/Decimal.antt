@@ -5,10 +5,10 @@ use mathlib.Core.Path.{_∙_, _≡_, ap, refl, subst}
 use Prim.Native.Nat.{_%_, _*_, _+_, _-_, _/_, _<_, _^_, _≤_, suc, zero, ℕ}
 use native.Mathlib.Nat.{pow-suc, pow-zero}
 use native.Mathlib.Omega.{arith}
-use lib.Dec.{leb, ltb}
-use lib.Pow.{pow-add}
+use lib.Dec.{ltb}
+use lib.ListN.{length, length-append}
 use Rattle.lists.proofs.All.{All, All-append, []ᴬ, _∷ᴬ_}
-use Rattle.lists.proofs.Tests.{ltb-yes, no-ge, no-gt, yes-le, yes-lt}
+use Rattle.lists.proofs.Tests.{ltb-yes, no-ge, yes-lt}
 use Rattle.io.specs.Digits.{Fewest, digits, glyph}
 use Rattle.listing.specs.Text.{decimal, digitsOf}
 
@@ -91,16 +91,18 @@ pub fewest-decimal : (k n : ℕ) → Fewest 10 1 n k → digits 10 k n ≡ decim
 unfolding decimal
 fewest-decimal k n f = fewest-digits (suc n) k n (ltb n 10) refl (omega arith) f
 
--- A number of 64 bits has at most 20 digits.
-pub fewest-short : (k n : ℕ) → Fewest 10 1 n k → n < 18446744073709551616 → k ≤ 20
-fewest-short k n f h = go (leb k 20) refl
-  where
-    go : (b : Bool) → leb k 20 ≡ b → k ≤ 20
-    go true e = yes-le k 20 e
-    go false e =
-        let long = no-gt k 20 e in
-        let more : k - 1 ≡ 20 + (k - 21) = omega arith in
-        let least : 10 ^ (20 + (k - 21)) ≤ n = subst (λ (m : ℕ). 10 ^ m ≤ n) more (f .2 (omega arith)) in
-        let parts : 10 ^ (20 + (k - 21)) ≡ 100000000000000000000 * 10 ^ (k - 21) = pow-add 10 20 (k - 21) in
-        let positive = pow-ten-pos (k - 21) in
-        absurd (omega arith)
+-- A number below 10^k has at most k digits.
+digits-short : (fuel n k : ℕ) (last : Bool) → ltb n 10 ≡ last → n < 10 ^ suc k → length (digitsOf fuel last n) ≤ suc k
+digits-short zero n k last e h = omega arith
+digits-short (suc fuel) n k true e h = omega arith
+digits-short (suc fuel) n zero false e h = let large = no-ge n 10 e in let one = pow-suc 10 0 in let none = pow-zero 10 in absurd (omega arith)
+digits-short (suc fuel) n (suc k) false e h =
+    let step = pow-suc 10 (suc k) in
+    let front = digitsOf fuel (ltb (n / 10) 10) (n / 10) in
+    let less = digits-short fuel (n / 10) k (ltb (n / 10) 10) refl (omega arith) in
+    let more = length-append front ((48 + n % 10) ∷ []) in
+    omega arith
+
+pub decimal-short : (n k : ℕ) → n < 10 ^ suc k → length (decimal n) ≤ suc k
+unfolding decimal
+decimal-short n k h = digits-short (suc n) n k (ltb n 10) refl h

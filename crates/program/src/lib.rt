@@ -1,4 +1,6 @@
 // What the programs share: standard input, read to its end.
+pub mod list;
+
 use libc::STDIN_FILENO;
 ghost use Rattle.io.specs.Counts.{Counts};
 

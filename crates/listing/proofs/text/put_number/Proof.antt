@@ -6,7 +6,7 @@ use native.Mathlib.Omega.{arith}
 use borrow.Author.Needs.{needs}
 use lib.ListN.{length}
 use lib.Seq.{sets}
-use Rattle.listing.proofs.Decimal.{fewest-decimal, fewest-short}
+use Rattle.listing.proofs.Decimal.{decimal-short, fewest-decimal}
 use Rattle.listing.proofs.text.put_number.Statement.{statement}
 use Rattle.listing.proofs.text.put_number.Tie as tie
 
@@ -23,7 +23,8 @@ put-word-requires : tie.Need-put-word-requires
 put-word-requires c κs =
     let made = c .before .before .decimal in
     let start = c .before .before .before .before .before in
-    omega (arith, made .ensures .0 .1, fewest-short (made .result) (start .args .number) (made .ensures .1 .0) (omega (arith, start .fits .number)))
+    let text = made .ensures .1 .1 ∙ fewest-decimal (made .result) (start .args .number) (made .ensures .1 .0) in
+    omega (arith, ap (λ (l : List ℕ). length l) text)
 
 same-length : tie.Need-same-length
 same-length c = search needs
@@ -34,10 +35,10 @@ returns c =
     let made = c .before .before .before .before .before .decimal in
     let start = c .before .before .before .before .before .before .before .before in
     let text = made .ensures .1 .1 ∙ fewest-decimal (made .result) (start .args .number) (made .ensures .1 .0) in
-    let short = fewest-short (made .result) (start .args .number) (made .ensures .1 .0) (omega (arith, start .fits .number)) in
+    let short = decimal-short (start .args .number) 19 (omega (arith, start .fits .number)) in
     let long = ap (λ (l : List ℕ). length l) text in (
       put .ensures .0 ∙ ap (λ (l : List ℕ). sets (start .args .out .now) (start .args .at) l) text,
-      (omega (arith, put .ensures .1, long), omega (arith, put .ensures .1, made .ensures .0 .1)),
+      (omega (arith, put .ensures .1, long), omega (arith, put .ensures .1, long, short)),
     )
 
 pub put-number-spec : {M : Type 1} → statement M

@@ -4,6 +4,7 @@ use native.Mathlib.Omega.{arith}
 use borrow.Author.Needs.{needs}
 use Rattle.listing.specs.Text.{decimal}
 use Rattle.listing.proofs.Buffer.{put-after}
+use Rattle.listing.proofs.Decimal.{decimal-short}
 use Rattle.listing.proofs.text.put_spaced.Statement.{statement}
 use Rattle.listing.proofs.text.put_spaced.Tie as tie
 
@@ -11,7 +12,9 @@ put-byte-requires : tie.Need-put-byte-requires
 put-byte-requires c κs = search needs
 
 put-number-requires : tie.Need-put-number-requires
-put-number-requires c κs = search needs
+put-number-requires c κs =
+    let start = c .before .before .before .before .before .before in
+    omega (arith, decimal-short (start .args .number) 19 (omega (arith, start .fits .number)))
 
 same-length : tie.Need-same-length
 same-length c = search needs
