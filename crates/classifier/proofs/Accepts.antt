@@ -23,7 +23,7 @@ unfolding engineFault
 sound-of structural s h = ap₂ _||_ (refuseIf-no (cyclic s) 11 (▷-left _ _ h)) (refuseIf-no (childless s) 12 (▷-right (refuseIf (cyclic s) 12) _ h))
 sound-of exhaustive s h = refl
 
-of-sound : (e : Engine) (s : Spec) → unsound e s ≡ false → engineFault e s ≡ none
+pub of-sound : (e : Engine) (s : Spec) → unsound e s ≡ false → engineFault e s ≡ none
 unfolding engineFault
 of-sound structural s h = let p = or-split (cyclic s) (childless s) h in rw (p .0, p .1)
 of-sound exhaustive s h = refl

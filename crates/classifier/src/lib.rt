@@ -1,5 +1,5 @@
 // Module 5, after src/verify/classifier.rs and src/classification/mod.rs: count and page. Its definitions are in specs/.
 pub mod count;
-pub mod judge;
+mod judge;
 pub mod page;
-pub mod tally;
+mod tally;

@@ -34,7 +34,7 @@ pub fn clear(list: &mut [i64])
 }
 
 // Lays the domain of field h, whose values are the records given.
-pub fn lay_domain(h: Record, values: &[u8], list: &mut [i64])
+pub(crate) fn lay_domain(h: Record, values: &[u8], list: &mut [i64])
     requires { ⌜ InScale (h .p) (h .q) (h .r) × (length (now list) ≡ length (domain (fieldBy (h .b) (asRecord h) (recordsOf (now values))))) ⌝ }
     ensures { λ _. ⌜ now (list .exit) ≡ domain (fieldBy (h .b) (asRecord h) (recordsOf (now (values .entry)))) ⌝ }
 {
@@ -162,7 +162,7 @@ fn lay_list(
 }
 
 // Lays the lists of the fields one behind the other, by the constraints given, and zeros to the end: where list f starts at f, its length at 32 + f.
-pub fn lay_lists(
+pub(crate) fn lay_lists(
     file: &[u8],
     fields: &[usize],
     constraints: &[usize],

@@ -13,7 +13,7 @@ ghost use Rattle.compose.specs.Code.{constraintsIn, HeadsIn, mapIn, Maps
 pub const NONE: usize = 32;
 
 // The last cross onto each field: its parent at f, the records of its members from the number at 32 + f to before that at 64 + f.
-pub fn kept_maps(file: &[u8], heads: &[usize], n: usize) -> [usize; 96]
+pub(crate) fn kept_maps(file: &[u8], heads: &[usize], n: usize) -> [usize; 96]
     requires { ⌜ (n ≤ 32) × HeadsIn (now file) (now heads) n ⌝ }
     ensures maps { λ r. ⌜ map (mapIn (now (file .entry)) r) (upto 32) ≡ map (keptMap (constraintsIn (now (file .entry)) (now (heads .entry)))) (upto 32) ⌝ }
     ensures inside { λ r. ⌜ MapsIn (now (file .entry)) r n ⌝ }

@@ -35,7 +35,12 @@ pub fn failing_field(file: &[u8], fields: &[usize], row: &[i64]) -> usize
 }
 
 // The first of the constraints chosen whose check fails, by its number counted from 1; 0 if none does.
-pub fn failing_constraint(file: &[u8], heads: &[usize], chosen: &[usize], row: &[i64]) -> usize
+pub(crate) fn failing_constraint(
+    file: &[u8],
+    heads: &[usize],
+    chosen: &[usize],
+    row: &[i64],
+) -> usize
     requires { ⌜ ChecksIn (now file) (now heads) (now chosen) (length (now row)) ⌝ }
     ensures { λ r. ⌜ r ≡ firstChosen (holdsAt (now (file .entry)) (now (heads .entry)) (now (row .entry))) (now (chosen .entry)) ⌝ }
 {

@@ -64,7 +64,7 @@ pub fn has_pair(run: &[u8], v: Value, w: Value) -> bool
 }
 
 // The parent's value is no key, or the child's is paired with it.
-pub fn crosses(run: &[u8], v: Value, w: Value) -> bool
+pub(crate) fn crosses(run: &[u8], v: Value, w: Value) -> bool
     ensures { λ r. ⌜ r ≡ crossAllows (map entryOf (recordsOf (now (run .entry)))) (v .0) (w .0) ⌝ }
 {
     if !has_p(run, v) {

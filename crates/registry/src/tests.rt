@@ -9,42 +9,42 @@ ghost use Rattle.lists.specs.Integers.{eqZ, andZ, lowBit};
 ghost use Rattle.spec.specs.Refusal.{negative};
 
 // p..q, both included.
-pub fn in_range(v: Value, p: i64, q: i64) -> bool
+pub(crate) fn in_range(v: Value, p: i64, q: i64) -> bool
     ensures { λ r. ⌜ r ≡ leZ p (v .0) && leZ (v .0) q ⌝ }
 {
     let x = v.0;
     (p <= x) & (x <= q)
 }
 
-pub fn is_even(v: Value) -> bool
+pub(crate) fn is_even(v: Value) -> bool
     ensures { λ r. ⌜ r ≡ eqb (lowBit (v .0)) 0 ⌝ }
 {
     let x = v.0;
     x % 2 == 0
 }
 
-pub fn is_below(v: Value, p: i64) -> bool
+pub(crate) fn is_below(v: Value, p: i64) -> bool
     ensures { λ r. ⌜ r ≡ ltZ (v .0) p ⌝ }
 {
     let x = v.0;
     x < p
 }
 
-pub fn is_above(v: Value, p: i64) -> bool
+pub(crate) fn is_above(v: Value, p: i64) -> bool
     ensures { λ r. ⌜ r ≡ ltZ p (v .0) ⌝ }
 {
     let x = v.0;
     p < x
 }
 
-pub fn is_at_most(v: Value, p: i64) -> bool
+pub(crate) fn is_at_most(v: Value, p: i64) -> bool
     ensures { λ r. ⌜ r ≡ leZ (v .0) p ⌝ }
 {
     let x = v.0;
     x <= p
 }
 
-pub fn is_at_least(v: Value, p: i64) -> bool
+pub(crate) fn is_at_least(v: Value, p: i64) -> bool
     ensures { λ r. ⌜ r ≡ leZ p (v .0) ⌝ }
 {
     let x = v.0;
@@ -52,7 +52,7 @@ pub fn is_at_least(v: Value, p: i64) -> bool
 }
 
 // The value AND the mask, in two's complement, is q.
-pub fn has_bits(v: Value, mask: i64, q: i64) -> bool
+pub(crate) fn has_bits(v: Value, mask: i64, q: i64) -> bool
     requires { ⌜ negative mask ≡ false ⌝ }
     ensures { λ r. ⌜ r ≡ eqZ (pos (andZ (v .0) (natAbs mask))) q ⌝ }
 {
@@ -60,7 +60,7 @@ pub fn has_bits(v: Value, mask: i64, q: i64) -> bool
     (x & mask) == q
 }
 
-pub fn same(v: Value, w: Value) -> bool
+pub(crate) fn same(v: Value, w: Value) -> bool
     ensures { λ r. ⌜ r ≡ eqZ (v .0) (w .0) ⌝ }
 {
     let x = v.0;

@@ -49,7 +49,7 @@ fn overlaps_any(m: Record, before: &[u8]) -> bool
 }
 
 // width 1..63, shift + width ≤ 63, the radix, and no overlap with an axis before it.
-pub fn bad_axis(m: Record, before: &[u8]) -> bool
+pub(crate) fn bad_axis(m: Record, before: &[u8]) -> bool
     requires { ⌜ (m .a < 256) × (m .b < 256) ⌝ }
     ensures { λ r. ⌜ r ≡ badAxis (recordsOf (now (before .entry))) (asRecord m) ⌝ }
 {
@@ -78,7 +78,7 @@ fn reaches_over(axes: &[u8], top: usize) -> bool
 }
 
 // q is −1..63, and not below the highest shift + width.
-pub fn bad_offset(axes: &[u8], q: i64) -> bool
+pub(crate) fn bad_offset(axes: &[u8], q: i64) -> bool
     ensures { λ r. ⌜ r ≡ badOffset (recordsOf (now (axes .entry))) q ⌝ }
 {
     if q == -1 {

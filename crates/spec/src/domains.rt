@@ -134,7 +134,7 @@ pub fn part(file: &[u8], from: usize, to: usize) -> &[u8]
 }
 
 // The members after a head, as that part of the file.
-pub fn members(file: &[u8], head: usize) -> &[u8]
+pub(crate) fn members(file: &[u8], head: usize) -> &[u8]
     requires { ⌜ head < length (now file) / 32 ⌝ }
     ensures { λ r. ⌜ recordsOf (now r) ≡ memberRun (drop (suc head) (recordsOf (now (file .entry)))) ⌝ }
 {

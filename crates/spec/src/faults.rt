@@ -42,7 +42,7 @@ fn blank_field(h: Record) -> bool
 }
 
 // A head, after so many fields and constraints: the lowest number from 2 to 8.
-pub fn head_fault(h: Record, c: Context) -> u8
+pub(crate) fn head_fault(h: Record, c: Context) -> u8
     ensures { λ r. ⌜ r ≡ firstTrue 2 (headTests (kindOf (h .code)) (asContext c) (asRecord h)) ⌝ }
 {
     if unknown_kind(h) {
@@ -70,7 +70,7 @@ pub fn head_fault(h: Record, c: Context) -> u8
 }
 
 // Head h takes the record m.
-pub fn belongs_to(h: Record, m: Record) -> bool
+pub(crate) fn belongs_to(h: Record, m: Record) -> bool
     requires { ⌜ isMember (kindOf (m .code)) ≡ true ⌝ }
     ensures { λ r. ⌜ r ≡ belongs (asRecord h) (asRecord m) ⌝ }
 {
@@ -92,7 +92,7 @@ fn bad_packing(m: Record, before: &[u8]) -> bool
 }
 
 // A member m that head h takes, after so many fields and the members before it: the lowest number from 3 to 9.
-pub fn member_fault(h: Record, fields: usize, before: &[u8], m: Record) -> u8
+pub(crate) fn member_fault(h: Record, fields: usize, before: &[u8], m: Record) -> u8
     requires { ⌜ (m .a < 256) × (m .b < 256) ⌝ }
     ensures { λ r. ⌜ r ≡ firstTrue 2 (memberTests (kindOf (m .code)) fields (asRecord h) (recordsOf (now (before .entry))) (asRecord m)) ⌝ }
 {
@@ -115,7 +115,7 @@ pub fn member_fault(h: Record, fields: usize, before: &[u8], m: Record) -> u8
 }
 
 // A member that its head does not take, or that no head stands before: 3 or 4.
-pub fn misfiled_fault(m: Record) -> u8
+pub(crate) fn misfiled_fault(m: Record) -> u8
     ensures { λ r. ⌜ r ≡ misfiledNumber (asRecord m) ⌝ }
 {
     if stray_byte(m) {
@@ -125,7 +125,7 @@ pub fn misfiled_fault(m: Record) -> u8
 }
 
 // A fault of the whole list of head h: 8 or 9.
-pub fn list_fault(h: Record, members: &[u8]) -> u8
+pub(crate) fn list_fault(h: Record, members: &[u8]) -> u8
     ensures { λ r. ⌜ r ≡ listFault (kindOf (h .code)) (asRecord h) (recordsOf (now (members .entry))) ⌝ }
 {
     if h.code == 1 {

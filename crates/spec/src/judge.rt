@@ -37,7 +37,7 @@ fn is_negative(x: i64) -> bool
 }
 
 // 2: an unknown kind, or a field of an unknown form.
-pub fn unknown_kind(h: Record) -> bool
+pub(crate) fn unknown_kind(h: Record) -> bool
     ensures { λ r. ⌜ r ≡ unknownKind (kindOf (h .code)) (asRecord h) ⌝ }
 {
     match class_of(h.code) {
@@ -61,7 +61,7 @@ fn stray_by(w: Row, h: Record) -> bool
 }
 
 // 3: something that the kind does not use is not 0.
-pub fn stray_byte(h: Record) -> bool
+pub(crate) fn stray_byte(h: Record) -> bool
     ensures { λ r. ⌜ r ≡ strayByte (kindOf (h .code)) (asRecord h) ⌝ }
 {
     stray_by(row_of(h.code, h.b), h)
@@ -74,21 +74,21 @@ fn due_by(w: Row, due: usize, h: Record) -> bool
 }
 
 // 4: a is not the number due.
-pub fn not_due(h: Record, due: usize) -> bool
+pub(crate) fn not_due(h: Record, due: usize) -> bool
     ensures { λ r. ⌜ r ≡ notDue (kindOf (h .code)) due (asRecord h) ⌝ }
 {
     due_by(row_of(h.code, h.b), due, h)
 }
 
 // 4: fields, then constraints, then one projector.
-pub fn out_of_order(h: Record, c: Context) -> bool
+pub(crate) fn out_of_order(h: Record, c: Context) -> bool
     ensures { λ r. ⌜ r ≡ outOfOrder (kindOf (h .code)) (asContext c) (asRecord h) ⌝ }
 {
     (section_of(h.code) < c.section) | (c.section == 2) | not_due(h, c.fields)
 }
 
 // 5: the 33rd field, the 257th constraint.
-pub fn over_full(h: Record, c: Context) -> bool
+pub(crate) fn over_full(h: Record, c: Context) -> bool
     ensures { λ r. ⌜ r ≡ overfull (kindOf (h .code)) (asContext c) ⌝ }
 {
     match class_of(h.code) {
@@ -107,14 +107,14 @@ fn named_by(w: Row, n: usize, h: Record) -> bool
 }
 
 // 6: a named field is not below n, the count of fields before it.
-pub fn no_such_field(h: Record, n: usize) -> bool
+pub(crate) fn no_such_field(h: Record, n: usize) -> bool
     ensures { λ r. ⌜ r ≡ noSuchField (kindOf (h .code)) n (asRecord h) ⌝ }
 {
     named_by(row_of(h.code, h.b), n, h)
 }
 
 // Within ±2^56.
-pub fn on_scale(x: i64) -> bool
+pub(crate) fn on_scale(x: i64) -> bool
     ensures { λ r. ⌜ r ≡ onScale x ⌝ }
 {
     (-0x100_0000_0000_0000 <= x) & (x <= 0x100_0000_0000_0000)
@@ -131,7 +131,7 @@ fn scaled_by(w: Row, h: Record) -> bool
 }
 
 // 7: p, q or r off the scale; a negative mask or step.
-pub fn off_scale(h: Record) -> bool
+pub(crate) fn off_scale(h: Record) -> bool
     ensures { λ r. ⌜ r ≡ offScale (kindOf (h .code)) (asRecord h) ⌝ }
 {
     scaled_by(row_of(h.code, h.b), h)

@@ -88,7 +88,7 @@ pub fn power(k: usize) -> u64
     POWERS[k]
 }
 
-pub fn wide(x: u8) -> u64
+pub(crate) fn wide(x: u8) -> u64
     ensures { λ r. ⌜ (r ≡ x) × (r < 256) ⌝ }
 {
     x as u64
@@ -127,7 +127,7 @@ fn to_signed(n: u64) -> i64
 }
 
 // The signed 64-bit little-endian number at byte `at`.
-pub fn number_at(s: &[u8], at: usize) -> i64
+pub(crate) fn number_at(s: &[u8], at: usize) -> i64
     requires { ⌜ at + 8 ≤ length (now s) ⌝ }
     ensures { λ r. ⌜ r ≡ wordAt (now (s .entry)) at ⌝ }
 {

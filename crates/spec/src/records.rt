@@ -67,7 +67,7 @@ pub fn q_at(file: &[u8], i: usize) -> i64
     number_at(file, i * 32 + 16)
 }
 
-pub fn r_at(file: &[u8], i: usize) -> i64
+pub(crate) fn r_at(file: &[u8], i: usize) -> i64
     requires { ⌜ i < length (now file) / 32 ⌝ }
     ensures { λ r. ⌜ r ≡ recordAt (now (file .entry)) i .r ⌝ }
 {

@@ -201,7 +201,7 @@ fn scan_from(file: &[u8], first: State) -> Refusal
 }
 
 // Refusals 2 to 9.
-pub fn scan(file: &[u8]) -> Refusal
+pub(crate) fn scan(file: &[u8]) -> Refusal
     requires { ⌜ length (now file) ≤ 65536 ⌝ }
     ensures { λ r. ⌜ asFault r ≡ recordsFault (recordsOf (now (file .entry))) ⌝ }
 {

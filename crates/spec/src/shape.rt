@@ -20,7 +20,7 @@ ghost use Rattle.spec.specs.Code.{capped, isHead, lengths, factorAt};
 pub const LIMIT: usize = 1_000_000_000;
 
 // How many fields, for section 0, or constraints, for section 1.
-pub fn heads(file: &[u8], section: u8) -> usize
+pub(crate) fn heads(file: &[u8], section: u8) -> usize
     requires { ⌜ length (now file) ≤ 65536 ⌝ }
     ensures { λ r. ⌜ r ≡ countIf (isHead section) (recordsOf (now (file .entry))) ⌝ }
 {
@@ -38,7 +38,7 @@ pub fn heads(file: &[u8], section: u8) -> usize
 }
 
 // How many records stand before the first of a section or a later one.
-pub fn stands_at(file: &[u8], section: u8) -> usize
+pub(crate) fn stands_at(file: &[u8], section: u8) -> usize
     ensures { λ r. ⌜ r ≡ standsAt section (recordsOf (now (file .entry))) ⌝ }
 {
     let n = file.len() / 32;
@@ -94,7 +94,7 @@ fn product_of(file: &[u8]) -> usize
 }
 
 // The total, which stops growing above the limit; 0 with no fields.
-pub fn total_of(file: &[u8]) -> usize
+pub(crate) fn total_of(file: &[u8]) -> usize
     requires { ⌜ (length (now file) ≤ 65536) × (recordsFault (recordsOf (now file)) ≡ none) ⌝ }
     ensures { λ r. ⌜ r ≡ capped (total (decoded (now (file .entry)))) ⌝ }
 {
