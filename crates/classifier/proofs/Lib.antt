@@ -6,3 +6,9 @@ pub mod Walked
 pub mod Tallying
 pub mod Numbered
 pub mod Answered
+pub mod Wording
+pub mod Starts
+pub mod Paging
+pub mod Going
+pub mod Turning
+pub mod Late
