@@ -16,6 +16,7 @@ use spec::validate::validate;
 ghost use mathlib.Core.Path.{_≡_};
 ghost use Prim.Native.Nat.{_*_, _≤_};
 ghost use lib.ListN.{length, take};
+ghost use Rattle.io.specs.Counts.{Counts};
 ghost use Rattle.compose.specs.Code.{asEngine};
 ghost use Rattle.classifier.specs.Count.{countAnswer};
 ghost use Rattle.classifier.specs.Page.{pageAnswer};
@@ -42,7 +43,8 @@ fn fields_of(file: &[u8]) -> usize
 
 // The last line, at the start of the text; how many bytes.
 fn last_text(engine: Engine, file: &[u8], scratch: &mut [i64], text: &mut [u8; 96]) -> usize
-    ensures { λ r. ⌜ take r (now (text .exit)) ≡ lastLine (countAnswer (asEngine engine) (length (now (scratch .entry))) (now (file .entry))) ⌝ }
+    ensures counted { λ r. ⌜ Counts r (now (text .exit)) ⌝ }
+    ensures line { λ r. ⌜ take r (now (text .exit)) ≡ lastLine (countAnswer (asEngine engine) (length (now (scratch .entry))) (now (file .entry))) ⌝ }
 {
     match count(engine, file, scratch) {
         Counted::Refused(r) => put_refusal(text, 0, r),
@@ -67,6 +69,7 @@ fn page_text(
     start: Start,
 ) -> PageText
     requires { ⌜ length (now words) * 21 ≤ length (now text) ⌝ }
+    ensures counted { λ r. ⌜ Counts (r .len) (now (text .exit)) ⌝ }
     ensures lines { λ r. ⌜ take (r .len) (now (text .exit)) ≡ pageLines (asEngine engine) (now (file .entry)) (asStart start) (pageAnswer (asEngine engine) (length (now (scratch .entry))) (length (now (words .entry))) (now (file .entry)) (asStart start)) ⌝ }
     ensures more { λ r. ⌜ r .more ≡ isMore (pageAnswer (asEngine engine) (length (now (scratch .entry))) (length (now (words .entry))) (now (file .entry)) (asStart start)) ⌝ }
     ensures last { λ r. ⌜ r .last ≡ lastBy (pageAnswer (asEngine engine) (length (now (scratch .entry))) (length (now (words .entry))) (now (file .entry)) (asStart start)) ⌝ }
