@@ -95,17 +95,17 @@ good-laid (_∷ᴬ_ {x = group h ms} {xs = gs} p t) f g = step (h .kind) refl (g
     step (member r) e a b ih = absurd (true≢false (sym (ap isMember e) ∙ p .0))
 
 -- ---- what a record names
-unnot : (b : Bool) → not b ≡ false → b ≡ true
+pub unnot : (b : Bool) → not b ≡ false → b ≡ true
 unnot true e = refl
 unnot false e = absurd (true≢false e)
 
 -- What test 3 says of the parts that a row does not use.
-record Unstray (w : Row) (h : Record) : Type 0 where
-  a-unused : (isUnused (w .a) && not (eqb (h .a) 0)) ≡ false
-  b-unused : (isUnused (w .b) && not (eqb (h .b) 0)) ≡ false
-  q-unused : (isUnused (w .q) && not (eqZ (h .q) (pos 0))) ≡ false
+pub record Unstray (w : Row) (h : Record) : Type 0 where
+  pub a-unused : (isUnused (w .a) && not (eqb (h .a) 0)) ≡ false
+  pub b-unused : (isUnused (w .b) && not (eqb (h .b) 0)) ≡ false
+  pub q-unused : (isUnused (w .q) && not (eqZ (h .q) (pos 0))) ≡ false
 
-unstrayed : (w : Row) (h : Record) → strayBy w h ≡ false → Unstray w h
+pub unstrayed : (w : Row) (h : Record) → strayBy w h ≡ false → Unstray w h
 unstrayed w h e =
     let padding = not (eqb (h .padding) 0) in
     let a = isUnused (w .a) && not (eqb (h .a) 0) in

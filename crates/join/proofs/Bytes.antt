@@ -94,13 +94,13 @@ section-records : (i : ℕ) (file : List ℕ) → map recordOf (section i file) 
 unfolding recordsOf
 section-records i file = sym (filter-map (inPart i) recordOf (partsOf file))
 
-fieldCount-records : (file : List ℕ) → fieldCount file ≡ length (filter (λ h. isField (h .kind)) (recordsOf file))
+pub fieldCount-records : (file : List ℕ) → fieldCount file ≡ length (filter (λ h. isField (h .kind)) (recordsOf file))
 unfolding recordsOf
 fieldCount-records file = sym (length-map (filter (λ bytes. isField (recordOf bytes .kind)) (partsOf file)) recordOf) ∙ ap length (sym (filter-map (λ h. isField (h .kind)) recordOf (partsOf file)))
 
 -- ---- two whole files
 module _ (f g : List ℕ) (lf : length f % 32 ≡ 0) (lg : length g % 32 ≡ 0) where
-  joined-full : Full (joinParts f g)
+  pub joined-full : Full (joinParts f g)
   unfolding joinParts
   joined-full = All-append (All-filter (inSection 0) (parts-full f lf)) (All-append (moved-full (fieldCount f) (All-filter (inSection 0) (parts-full g lg)))
       (All-append (All-filter (inSection 1) (parts-full f lf)) (All-append (moved-full (fieldCount f) (All-filter (inSection 1) (parts-full g lg))) (sum-full ∷ᴬ []ᴬ))))

@@ -8,3 +8,7 @@ pub mod Moved
 pub mod Decode
 pub mod Bytes
 pub mod Multiplies
+pub mod Written
+pub mod Ranges
+pub mod Faults
+pub mod Called

@@ -50,19 +50,24 @@ pub record JoinedFrom (f g : List ℕ) (v w joined : Verdict) : Type 0 where
   -- Its place follows from the two places.
   pub place : PlaceFormula (length (decoded f .fields)) (length (decoded g .fields)) (length (decoded f .constraints)) (v .place) (w .place) (joined .place)
 
-pub record JoinMultiplies (e : Engine) (f g : List ℕ) : Type 0 where
+-- What is said of a file h that is f and g joined.
+pub record Multiplies (e : Engine) (f g h : List ℕ) : Type 0 where
   -- That engine then accepts the joined file too, given scratch for its lists.
-  pub accepted : Accepts e (joinBytes f g)
+  pub accepted : Accepts e h
   -- Its verdicts are, for each of the first's in order, each of the second's in order, and no others.
-  pub list : verdicts e (decoded (joinBytes f g)) ≡ pairUp (joinedVerdict (decoded f) (decoded g)) (verdicts e (decoded f)) (verdicts e (decoded g))
+  pub list : verdicts e (decoded h) ≡ pairUp (joinedVerdict (decoded f) (decoded g)) (verdicts e (decoded f)) (verdicts e (decoded g))
   -- Where the second file has k verdicts, joined verdict (i − 1) × k + j comes from the first's verdict i and the second's verdict j.
   pub each : (i j : ℕ) → Among i (length (verdicts e (decoded f))) → Among j (length (verdicts e (decoded g)))
-      → JoinedFrom f g (nth (verdicts e (decoded f)) i) (nth (verdicts e (decoded g)) j) (nth (verdicts e (decoded (joinBytes f g))) ((i - 1) * length (verdicts e (decoded g)) + j))
+      → JoinedFrom f g (nth (verdicts e (decoded f)) i) (nth (verdicts e (decoded g)) j) (nth (verdicts e (decoded h)) ((i - 1) * length (verdicts e (decoded g)) + j))
   -- The joined file's total, emitted and passed counts are the products of the two files' counts; failed = total − passed.
-  pub total : countsOf e (decoded (joinBytes f g)) .total ≡ countsOf e (decoded f) .total * countsOf e (decoded g) .total
-  pub emitted : countsOf e (decoded (joinBytes f g)) .emitted ≡ countsOf e (decoded f) .emitted * countsOf e (decoded g) .emitted
-  pub passed : countsOf e (decoded (joinBytes f g)) .passed ≡ countsOf e (decoded f) .passed * countsOf e (decoded g) .passed
-  pub failed : countsOf e (decoded (joinBytes f g)) .failed ≡ countsOf e (decoded (joinBytes f g)) .total - countsOf e (decoded (joinBytes f g)) .passed
+  pub total : countsOf e (decoded h) .total ≡ countsOf e (decoded f) .total * countsOf e (decoded g) .total
+  pub emitted : countsOf e (decoded h) .emitted ≡ countsOf e (decoded f) .emitted * countsOf e (decoded g) .emitted
+  pub passed : countsOf e (decoded h) .passed ≡ countsOf e (decoded f) .passed * countsOf e (decoded g) .passed
+  pub failed : countsOf e (decoded h) .failed ≡ countsOf e (decoded h) .total - countsOf e (decoded h) .passed
+
+-- The join multiplies.
+abbrev pub JoinMultiplies : Engine → List ℕ → List ℕ → Type 0
+JoinMultiplies e f g = Multiplies e f g (joinBytes f g)
 
 -- ---- what a join that is not refused says
 of-none : (w : Which) (o : Option Refused) → of w o ≡ none → o ≡ none

@@ -1,1 +1,2 @@
-// Joining two rules files. Its definitions are in specs/.
+// Module 5, added: two files joined. Its definitions are in specs/.
+pub mod join;

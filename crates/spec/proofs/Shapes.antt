@@ -8,7 +8,7 @@ use Prim.Native.Nat.{_*_, _+_, _/_, _<_, _≤_, suc, zero, ℕ}
 use native.Mathlib.Nat.{le-div-iff-mul-le, mul-assoc, mul-comm, mul-one, mul-zero, one-mul}
 use native.Mathlib.Numerals.{add-one}
 use native.Mathlib.Omega.{arith}
-use lib.Dec.{eqb, leb}
+use lib.Dec.{eqb, leb, ltb}
 use lib.IntN.{natAbs, pos}
 use lib.ListN.{drop, drop-of-length-le, length, length-map}
 use Rattle.lists.specs.Integers.{eqZ}
@@ -18,14 +18,16 @@ use Rattle.lists.proofs.Integers.{eqZ-eq}
 use Rattle.lists.proofs.Lists.{map-append}
 use Rattle.lists.proofs.Numbers.{product-append}
 use Rattle.lists.proofs.Range.{in-range}
-use Rattle.lists.proofs.Tests.{and-false, leb-no, leb-yes, ltb-no, ltb-yes, no-gt, or-split, yes-le}
-use Rattle.spec.specs.Code.{InScale, capped, domainLength, factorAt, isHead, lengthBy, lengths}
+use Rattle.lists.proofs.Tests.{and-false, leb-no, leb-yes, ltb-no, ltb-yes, no-ge, no-gt, or-split, yes-le, yes-lt}
+use Rattle.spec.specs.Code.{InScale, capped, domainLength, factorAt, headAt, isHead, lengthBy, lengths}
 use Rattle.spec.specs.Domain.{domain, stepOf, total, zeroWithout}
 use Rattle.spec.specs.Kind.{Kind, constraint, field, fieldRow, isConstraint, isField, isMember, kindOf, member, projector, sectionOf, unknown}
 use Rattle.spec.specs.Record.{Group, Record, decoded, fieldBy, fieldIn, fieldOf, group, groups, memberRun, recordAt, recordsOf, specOf, unlessMember}
 use Rattle.spec.specs.Refusal.{Context, after, context, negative, offScale, recordsFault, strayBy, strayByte}
 use Rattle.spec.specs.Shape.{standsAt}
 use Rattle.spec.specs.Spec.{FieldSpec, Spec}
+use Rattle.spec.specs.declared.walker.Head.{Head}
+use Rattle.spec.specs.declared.walker.Head.the-variants as heads
 use Rattle.spec.proofs.Accepted.{count-constraints, count-fields, fieldOf-other}
 use Rattle.spec.proofs.Domain.{length-multiples}
 use Rattle.spec.proofs.Fields.{length-records, record-getD, records-from}
@@ -55,6 +57,25 @@ module _ (p : Record → Bool) (file : List ℕ) where
 
   pub count-end : (i : ℕ) → length file / 32 ≤ i → countFrom i ≡ 0
   count-end i h = rw (records-end file i h)
+
+-- ---- what a walker finds at a record's number
+abbrev codeOr : Head → ℕ
+codeOr (heads.Code code) = code
+codeOr heads.End = 0
+
+pub head-end : (file : List ℕ) (i : ℕ) → headAt file i ≡ heads.End → length file / 32 ≤ i
+head-end file i = go (ltb i (length file / 32)) refl
+  where
+    go : (b : Bool) → ltb i (length file / 32) ≡ b → cond b (heads.Code (recordAt file i .code)) heads.End ≡ heads.End → length file / 32 ≤ i
+    go true e c = let z : _≡_ {A = ℕ} 0 1 = cc in absurd (omega arith)
+    go false e c = no-ge i (length file / 32) e
+
+pub head-code : (file : List ℕ) (i code : ℕ) → headAt file i ≡ heads.Code code → (i < length file / 32) × (recordAt file i .code ≡ code)
+head-code file i code = go (ltb i (length file / 32)) refl
+  where
+    go : (b : Bool) → ltb i (length file / 32) ≡ b → cond b (heads.Code (recordAt file i .code)) heads.End ≡ heads.Code code → (i < length file / 32) × (recordAt file i .code ≡ code)
+    go true e c = (yes-lt i (length file / 32) e, ap codeOr c)
+    go false e c = let z : _≡_ {A = ℕ} 0 1 = cc in absurd (omega arith)
 
 -- ---- how many records stand before a section
 module _ (section : ℕ) (file : List ℕ) where

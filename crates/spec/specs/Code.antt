@@ -3,7 +3,7 @@ use mathlib.Core.Bool.{Bool, cond, true, false, not, _&&_, _||_}
 use mathlib.Core.List.{List, map}
 use mathlib.Core.Option.{Option}
 use mathlib.Core.Path.{_≡_}
-use Prim.Native.Nat.{ℕ, zero, suc, _+_, _-_, _*_, _^_, _≤_}
+use Prim.Native.Nat.{ℕ, zero, suc, _+_, _-_, _*_, _/_, _^_, _≤_}
 use lib.Dec.{eqb, leb, ltb}
 use lib.Signed.{ltZ}
 use Rattle.lists.specs.Integers.{eqZ}
@@ -30,6 +30,8 @@ use Rattle.spec.specs.declared.validate.Validation.{Validation}
 use Rattle.spec.specs.declared.validate.Validation.the-variants as validation
 use Rattle.spec.specs.declared.scan.Turn.{Turn}
 use Rattle.spec.specs.declared.scan.Turn.the-variants.{Next, Bad}
+use Rattle.spec.specs.declared.walker.Head.{Head}
+use Rattle.spec.specs.declared.walker.Head.the-variants as heads
 
 -- Eight bytes summed, the lowest first.
 abbrev pub eightAt : List ℕ → ℕ → ℕ
@@ -194,6 +196,10 @@ afterTurn file i (Bad r) = asFault r
 abbrev pub turnGood : ℕ → Turn → Type 0
 turnGood i (Next st) = (st .head ≤ i) × Counted st
 turnGood i (Bad r) = Unit {0}
+
+-- What stands at a record's number, counting from 0: the record's kind number, or the end of the file.
+abbrev pub headAt : List ℕ → ℕ → Head
+headAt file i = cond (ltb i (length file / 32)) (heads.Code (recordAt file i .code)) heads.End
 
 -- ---- what the layers above need
 -- A head that stands in a section.

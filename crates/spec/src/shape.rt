@@ -5,6 +5,8 @@ use crate::kinds::is_member;
 use crate::kinds::section_of;
 use crate::records::code_at;
 use crate::records::record_at;
+use crate::walker::Head;
+use crate::walker::next_head;
 ghost use mathlib.Core.Path.{_≡_};
 ghost use mathlib.Core.Option.{none};
 ghost use Prim.Native.Nat.{_*_, _/_, _≤_, _<_};
@@ -41,15 +43,21 @@ pub(crate) fn heads(file: &[u8], section: u8) -> usize
 pub(crate) fn stands_at(file: &[u8], section: u8) -> usize
     ensures { λ r. ⌜ r ≡ standsAt section (recordsOf (now (file .entry))) ⌝ }
 {
-    let n = file.len() / 32;
     let mut i = 0;
-    while i < n {
-        if section <= section_of(code_at(file, i)) {
-            return i;
+    loop {
+        let head = next_head(file, i);
+        match head {
+            Head::End => {
+                return i;
+            }
+            Head::Code(code) => {
+                if section <= section_of(code) {
+                    return i;
+                }
+            }
         }
         i += 1;
     }
-    n
 }
 
 // a × b, which stops growing above the limit.
