@@ -6,6 +6,7 @@ use join::join::join;
 use libc::STDERR_FILENO;
 use libc::STDOUT_FILENO;
 use program::ROOM;
+ghost use Rattle.io.specs.Counts.{Counts};
 
 // What was read of a file; nothing where it cannot be opened or read.
 struct Input {
@@ -14,7 +15,9 @@ struct Input {
 }
 
 // Reads to the end or until the room is full; a further read tells the end from a failure.
-fn read_from(fd: i32, name: &[u8], file: &mut [u8]) -> Input {
+fn read_from(fd: i32, name: &[u8], file: &mut [u8]) -> Input
+    ensures { λ r. ⌜ Counts (r .len) (now (file .exit)) ⌝ }
+{
     let len = io::read_full(fd, file);
     let mut more = [0u8; 1];
     if libc::read(fd, &mut more) < 0 {
@@ -27,7 +30,9 @@ fn read_from(fd: i32, name: &[u8], file: &mut [u8]) -> Input {
     Input { read: true, len }
 }
 
-fn read_file(name: &[u8], file: &mut [u8]) -> Input {
+fn read_file(name: &[u8], file: &mut [u8]) -> Input
+    ensures { λ r. ⌜ Counts (r .len) (now (file .exit)) ⌝ }
+{
     let fd = os::open_read(name);
     if fd < 0 {
         os::fail(name);
@@ -42,7 +47,9 @@ fn read_file(name: &[u8], file: &mut [u8]) -> Input {
 }
 
 // The file that argument i names.
-fn read_argument(i: usize, file: &mut [u8]) -> Input {
+fn read_argument(i: usize, file: &mut [u8]) -> Input
+    ensures { λ r. ⌜ Counts (r .len) (now (file .exit)) ⌝ }
+{
     let mut name = io::buffer();
     let len = os::arg(i, &mut name);
     read_file(&name[..len], file)
