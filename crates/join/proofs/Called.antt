@@ -2,7 +2,7 @@
 use mathlib.Core.List.{List}
 use mathlib.Core.Option.{Option, none, some}
 use mathlib.Core.Path.{_∙_, _≡_, ap, refl, subst, sym}
-use Prim.Native.Nat.{_<_, ℕ}
+use Prim.Native.Nat.{_<_, _≤_, ℕ}
 use native.Mathlib.Omega.{arith}
 use lib.ListN.{drop, length, take}
 use lib.Seq.{take-at}
@@ -12,7 +12,7 @@ use Rattle.compose.specs.Tuples.{Engine}
 use Rattle.classifier.specs.Count.{Accepts}
 use Rattle.join.specs.Join.{JoinRefused, joinAnswer, joinBytes, joinFault, joinOutput}
 use Rattle.join.proofs.Faults.{output-joined}
-use Rattle.join.proofs.Multiplies.{Multiplies, join-multiplies}
+use Rattle.join.proofs.Multiplies.{Multiplies, join-multiplies, joinable}
 
 -- An accepted call was not refused, and answered the length of the joined file.
 accepted-none : (o : Option JoinRefused) (m n : ℕ) → answer o m ≡ accepted n → (o ≡ none) × (m ≡ n)
@@ -26,6 +26,12 @@ accepted-none (some r) m n e = let z : _≡_ {A = ℕ} 0 1 = cc in absurd (omega
 pub answered : (f g : List ℕ) (room n : ℕ) → joinAnswer room f g ≡ accepted n → (joinFault room f g ≡ none) × (length (joinBytes f g) ≡ n)
 unfolding joinAnswer
 answered f g room n e = accepted-none (joinFault room f g) (length (joinBytes f g)) n e
+
+-- No file is longer than 65,536 bytes, so no joined one is.
+pub answered-short : (f g : List ℕ) (room n : ℕ) → joinAnswer room f g ≡ accepted n → n ≤ 65536
+answered-short f g room n e =
+    let a = answered f g room n e in
+    subst (λ (k : ℕ). k ≤ 65536) (a .1) (joinable room f g (a .0) .short)
 
 -- The n bytes that it wrote, where n is its answer, are the joined file.
 pub written : (f g old : List ℕ) (n : ℕ) → joinAnswer (length old) f g ≡ accepted n → take n (joinOutput f g old) ≡ joinBytes f g

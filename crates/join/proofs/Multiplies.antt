@@ -83,14 +83,14 @@ sum-of file e = go (decoded file .projector) e
     go (Parity f) e = let z : _≡_ {A = ℕ} 0 1 = cc in absurd (omega arith)
     go (Decompose f base offset axes) e = let z : _≡_ {A = ℕ} 0 1 = cc in absurd (omega arith)
 
-record Joinable (f g : List ℕ) : Type 0 where
-  sum₁ : decoded f .projector ≡ Sum
-  sum₂ : decoded g .projector ≡ Sum
-  few : tooManyRecords (decoded f) (decoded g) ≡ false
-  short : length (joinBytes f g) ≤ 65536
-  sized : tooMany (joinSpec (decoded f) (decoded g)) ≡ false
+pub record Joinable (f g : List ℕ) : Type 0 where
+  pub sum₁ : decoded f .projector ≡ Sum
+  pub sum₂ : decoded g .projector ≡ Sum
+  pub few : tooManyRecords (decoded f) (decoded g) ≡ false
+  pub short : length (joinBytes f g) ≤ 65536
+  pub sized : tooMany (joinSpec (decoded f) (decoded g)) ≡ false
 
-joinable : (room : ℕ) (f g : List ℕ) → joinFault room f g ≡ none → Joinable f g
+pub joinable : (room : ℕ) (f g : List ℕ) → joinFault room f g ≡ none → Joinable f g
 unfolding joinFault
 joinable room f g e₀ =
     let e₁ = ▷-right (of first (fileFault f)) _ e₀ in

@@ -70,7 +70,8 @@ fn print_which(which: Which) {
 }
 
 fn print_refusal(r: JoinRefusal) {
-    print_which(r.which);
+    let which = r.which;
+    print_which(which);
     io::print_decimal(STDERR_FILENO, r.number as u64);
     io::write_all(STDERR_FILENO, b" ");
     io::print_decimal(STDERR_FILENO, r.record as u64);
