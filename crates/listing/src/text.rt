@@ -161,6 +161,7 @@ fn put_lines(out: &mut [u8], words: &[i64], count: usize, width: usize) -> usize
     requires { ⌜ canList (now out) (now words) count width ≡ true ⌝ }
     ensures { λ r. ⌜ now (out .exit) ≡ sets (now (out .entry)) 0 (linesOf count width (now (words .entry))) ⌝ }
     ensures { λ r. ⌜ r ≡ length (linesOf count width (now (words .entry))) ⌝ }
+    ensures { λ r. ⌜ r ≤ length (now (out .entry)) ⌝ }
 {
     let mut next = 0;
     let mut i = 0;
@@ -177,6 +178,7 @@ fn put_lines(out: &mut [u8], words: &[i64], count: usize, width: usize) -> usize
 pub fn put_verdicts(out: &mut [u8], words: &[i64], count: usize, width: usize) -> usize
     ensures { λ r. ⌜ now (out .exit) ≡ putIf (canList (now (out .entry)) (now (words .entry)) count width) (linesOf count width (now (words .entry))) 0 (now (out .entry)) ⌝ }
     ensures { λ r. ⌜ r ≡ afterIf (canList (now (out .entry)) (now (words .entry)) count width) (linesOf count width (now (words .entry))) 0 ⌝ }
+    ensures { λ r. ⌜ r ≤ length (now (out .entry)) ⌝ }
 {
     if width < 4 {
         return 0;

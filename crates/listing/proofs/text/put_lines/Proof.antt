@@ -108,7 +108,10 @@ returns c =
     let args = c .before .before .before .args in
     let whole = linesOf (args .count) (args .width) (args .words .now) in
     let left = drop (here .i * args .width) (args .words .now) in
-    left-end (sets (args .out .now) 0 whole) (length whole) (here .out) (here .next) (linesOf (args .count - here .i) (args .width) left) (lines-end (args .count) (args .width) (here .i) left (c .loop-test .left)) (here .inv .3)
+    let all : here .i ≡ args .count = omega (arith, here .inv .0, c .loop-test .left) in
+    let far = ap (λ (k : ℕ). k * args .width) all in
+    let put = left-end (sets (args .out .now) 0 whole) (length whole) (here .out) (here .next) (linesOf (args .count - here .i) (args .width) left) (lines-end (args .count) (args .width) (here .i) left (c .loop-test .left)) (here .inv .3) in
+    (put .0, (put .1, omega (arith, far, here .inv .2, asked (c .before .before .before) .2)))
 
 pub put-lines-spec : {M : Type 1} → statement M
 put-lines-spec =
