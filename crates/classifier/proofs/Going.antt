@@ -12,8 +12,8 @@ use Rattle.lists.specs.Lists.{all, upto}
 use Rattle.spec.specs.Record.{decoded}
 use Rattle.spec.specs.Spec.{Spec}
 use Rattle.spec.proofs.Named.{width}
-use Rattle.compose.specs.Code.{Stands, padded, planIn}
-use Rattle.compose.specs.Tuples.{Engine, zeros}
+use Rattle.compose.specs.Code.{Stands, planIn}
+use Rattle.compose.specs.Tuples.{Engine, zeros, padded}
 use Rattle.compose.specs.Walk.{Placed, Plan, firstTuple, hasTupleAfter, indexHolds, isTuple, lengthAt, planOf, tupleAfter}
 use Rattle.compose.proofs.Emitted.{held}
 use Rattle.compose.proofs.Found.{first-held, next-held, tuple-held, tuple-placed, tuple-whole}

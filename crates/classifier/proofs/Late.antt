@@ -21,15 +21,16 @@ use Rattle.compose.specs.Walk.{Plan, planOf}
 use Rattle.compose.proofs.Found.{no-tuple}
 use Rattle.compose.proofs.Walk.{Ready, plan-width}
 use Rattle.evaluate.specs.Code.{checksOf, unsettled}
-use Rattle.classifier.specs.Code.{asPage, isStart, lastBy, lateFault, lateNumber, overWords, pagedAs, refusedWith, rulesOf}
+use Rattle.classifier.specs.Code.{asPage, isStart, lastBy, lateFault, lateNumber, pagedAs, refusedWith, rulesOf}
 use Rattle.classifier.specs.Count.{engineFault, scratchAfter, scratchFor}
 use Rattle.classifier.specs.Page.{Page, Start, afterTuple, beginning, due, dueTuples, isNone, outputShort, pageAnswer, pageFault, pageOf, pageOutput, pageWords, wordsOf}
 use Rattle.classifier.specs.declared.page.Answer as code
 use Rattle.classifier.specs.declared.page.Answer.the-variants as answers
 use Rattle.classifier.proofs.Answered.{fault-file, fault-room, fault-short}
-use Rattle.classifier.proofs.Numbered.{file-low, numberOf}
 use Rattle.classifier.proofs.Starts.{Wide, due-none, due-start, due-start-none}
 use Rattle.classifier.proofs.Walked.{walking-ready}
+use Rattle.lists.specs.Lists.{over}
+use Rattle.spec.proofs.Numbered.{file-low, numberOf}
 
 -- ---- a number and its refusal
 refuse-some : (n i : ℕ) → ¬ (n ≡ 0) → refuse n i ≡ some (record { number = n; at = i })
@@ -114,7 +115,7 @@ module _ (f : Option Refused) (page : Page) (new old : List ℤ) where
 
 -- ---- without fields
 pub fieldless : (engine : Engine) (s : Spec) (room : ℕ) (old : List ℤ) (start : Start) → width s ≡ 0 → isStart (planOf engine s) start ≡ true
-    → (pagedAs 0 (zeros 32) true ≡ accepted (pageOf s room (dueTuples engine s start) start)) × (old ≡ overWords (pageWords engine s room (dueTuples engine s start)) old)
+    → (pagedAs 0 (zeros 32) true ≡ accepted (pageOf s room (dueTuples engine s start) start)) × (old ≡ over (pageWords engine s room (dueTuples engine s start)) old)
 unfolding pageOf pageWords
 fieldless engine s room old beginning e h = rw (ap (λ (o : Option (List (List ℕ))). Option·getD o []) (due-none engine s e), zero-min) (refl, refl)
 fieldless engine s room old (afterTuple t) e h = let z : _≡_ {A = Bool} false true = sym (no-tuple engine s e t) ∙ h in absurd (false≢true z)
@@ -140,14 +141,14 @@ module _ (engine : Engine) (room : ℕ) (file : List ℕ) (start : Start) (old s
       × ((out ≡ pageOutput engine (length scratch) file start old) × (left ≡ scratchAfter (pageFault engine (length scratch) room file start) scratch)))
 
   leaves-by : room ≡ length old → (f : Option Refused) → pageFault engine (length scratch) room file start ≡ f → (a : Answer Refused Page) (last : List ℕ) (out left : List ℤ)
-      → Gives f (pageOf (decoded file) room (dueTuples engine (decoded file) start) start) (overWords (pageWords engine (decoded file) room (dueTuples engine (decoded file) start)) old) old a last out
+      → Gives f (pageOf (decoded file) room (dueTuples engine (decoded file) start) start) (over (pageWords engine (decoded file) room (dueTuples engine (decoded file) start)) old) old a last out
       → left ≡ scratchAfter f scratch → Leaves a last out left
   unfolding pageAnswer pageOutput
   leaves-by er f e a last out left g l = (
     g .0 ∙ ap (λ (o : Option Refused). answer o (pageOf (decoded file) room (dueTuples engine (decoded file) start) start)) (sym e),
     (
       g .1 .0 ∙ ap (λ (o : Option Refused). lastBy (answer o (pageOf (decoded file) room (dueTuples engine (decoded file) start) start))) (sym e),
-      (g .1 .1 ∙ ap (λ (o : Option Refused). unlessRefused o (overWords (pageWords engine (decoded file) room (dueTuples engine (decoded file) start)) old) old) (sym e) ∙ rw er refl, l ∙ ap (λ (o : Option Refused). scratchAfter o scratch) (sym e)),
+      (g .1 .1 ∙ ap (λ (o : Option Refused). unlessRefused o (over (pageWords engine (decoded file) room (dueTuples engine (decoded file) start)) old) old) (sym e) ∙ rw er refl, l ∙ ap (λ (o : Option Refused). scratchAfter o scratch) (sym e)),
     ),
   )
 
@@ -165,7 +166,7 @@ module _ (engine : Engine) (room : ℕ) (file : List ℕ) (start : Start) (old s
 
   -- 12 to 15, or the page
   pub leaves-late : room ≡ length old → fileFault file ≡ none → scratchFor (decoded file) ≤ length scratch → (a : Answer Refused Page) (last : List ℕ) (out left : List ℤ)
-      → Gives (lateFault engine (decoded file) room start) (pageOf (decoded file) room (dueTuples engine (decoded file) start) start) (overWords (pageWords engine (decoded file) room (dueTuples engine (decoded file) start)) old) old a last out
+      → Gives (lateFault engine (decoded file) room start) (pageOf (decoded file) room (dueTuples engine (decoded file) start) start) (over (pageWords engine (decoded file) room (dueTuples engine (decoded file) start)) old) old a last out
       → left ≡ replicate (length scratch) (pos 0) → Leaves a last out left
   unfolding pageFault
   leaves-late er good fits a last out left g l = leaves-by er (lateFault engine (decoded file) room start) (rw (fault-room engine (length scratch) file good fits)) a last out left g (l ∙ sym (late-clears engine (decoded file) room start scratch))

@@ -4,7 +4,6 @@ pub mod Room
 pub mod Placing
 pub mod Walked
 pub mod Tallying
-pub mod Numbered
 pub mod Answered
 pub mod Wording
 pub mod Starts

@@ -11,15 +11,15 @@ use lib.Arith.{digits-div}
 use lib.IntN.{ℤ}
 use lib.ListN.{drop, length, length-append, length-drop, take}
 use lib.Seq.{drop-at, take-at}
-use Rattle.lists.specs.Lists.{concatMap}
+use Rattle.lists.specs.Lists.{concatMap, over}
 use Rattle.lists.proofs.Lists.{concatMap-append}
 use Rattle.lists.proofs.Tests.{leb-no, leb-yes}
 use Rattle.spec.specs.Refusal.{Answer, Refused, accepted}
 use Rattle.spec.specs.Spec.{Spec}
-use Rattle.compose.specs.Tuples.{Engine}
-use Rattle.classifier.specs.Code.{overWords, pagedAs}
+use Rattle.compose.specs.Tuples.{Engine, padded}
+use Rattle.classifier.specs.Code.{pagedAs}
 use Rattle.classifier.specs.Count.{verdictOf}
-use Rattle.classifier.specs.Page.{Page, Start, fitCount, lastOr, padded, pageOf, pageWords, startTuple, words, wordsOf}
+use Rattle.classifier.specs.Page.{Page, Start, fitCount, lastOr, pageOf, pageWords, startTuple, words, wordsOf}
 
 -- ---- the next of a list
 module _ {A : Type 0} where
@@ -112,14 +112,14 @@ module _ (engine : Engine) (s : Spec) (start : Start) (k : ℕ) (wide : k ≡ wo
     (st : Writing (λ t. words (verdictOf engine s t)) k old ts (startTuple start) at count last out) where
   -- What the page answers, and what stands in the output.
   abbrev pub Ends : Answer Refused Page → Type 0
-  Ends a = (a ≡ accepted (pageOf s (length old) ts start)) × (out ≡ overWords (pageWords engine s (length old) ts) old)
+  Ends a = (a ≡ accepted (pageOf s (length old) ts start)) × (out ≡ over (pageWords engine s (length old) ts) old)
 
   fit-is : (min (length ts) (length old / k) ≡ count) → fitCount s (length old) ts ≡ count
   fit-is e = ap (λ (x : ℕ). min (length ts) (length old / x)) (sym wide) ∙ e
 
-  out-is : fitCount s (length old) ts ≡ count → out ≡ overWords (pageWords engine s (length old) ts) old
+  out-is : fitCount s (length old) ts ≡ count → out ≡ over (pageWords engine s (length old) ts) old
   unfolding pageWords
-  out-is e = st .words-are ∙ ap (λ (x : ℕ). concatMap (λ t. words (verdictOf engine s t)) (take count ts) ++ drop x old) (sym (st .long)) ∙ ap (λ (x : ℕ). overWords (concatMap (λ t. words (verdictOf engine s t)) (take x ts)) old) (sym e)
+  out-is e = st .words-are ∙ ap (λ (x : ℕ). concatMap (λ t. words (verdictOf engine s t)) (take count ts) ++ drop x old) (sym (st .long)) ∙ ap (λ (x : ℕ). over (concatMap (λ t. words (verdictOf engine s t)) (take x ts)) old) (sym e)
 
   pub page-stopped : (t : List ℕ) (rest : List (List ℕ)) → drop count ts ≡ t ∷ rest → length old - at < k → Ends (pagedAs count last false)
   unfolding pageOf

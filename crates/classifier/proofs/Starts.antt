@@ -12,14 +12,14 @@ use Rattle.lists.proofs.All.{All, []ᴬ, _∷ᴬ_}
 use Rattle.lists.proofs.Tests.{ltb-yes}
 use Rattle.spec.specs.Spec.{Spec}
 use Rattle.spec.proofs.Named.{width}
-use Rattle.compose.specs.Tuples.{Engine, emitted, zeros}
+use Rattle.compose.specs.Tuples.{Engine, emitted, zeros, padded}
 use Rattle.compose.specs.declared.steps.Stepped.{Stepped}
 use Rattle.compose.specs.Walk.{Plan, firstTuple, hasTupleAfter, isTuple, planOf, tupleAfter}
 use Rattle.compose.proofs.Found.{eqList-refl, following-from, is-tuple, no-emitted, no-tuple, tuple-placed, tuple-whole}
 use Rattle.compose.proofs.Walk.{Ready, fromTuple, walk-first, walk-step}
 use Rattle.classifier.specs.Code.{asStart, isStart, lateNumber, stepFrom}
 use Rattle.classifier.specs.declared.page.Start as code
-use Rattle.classifier.specs.Page.{Start, afterTuple, beginning, due, following, isNone, padded, restIf}
+use Rattle.classifier.specs.Page.{Start, afterTuple, beginning, due, following, isNone, restIf}
 
 -- ---- the start of the code
 pub given-start : (start : code.Start) → start .given ≡ true → asStart start ≡ afterTuple (start .tuple)

@@ -1,6 +1,6 @@
 -- The words of a verdict, where they stand: its row from word 4 on, the rest before it.
 use mathlib.Core.List.{List, [], _++_, _∷_, append-nil, map}
-use mathlib.Core.Option.{Option}
+use mathlib.Core.Option.{Option, none, some}
 use mathlib.Core.Path.{_∙_, _≡_, ap, refl, sym}
 use Prim.Native.Nat.{_+_, _-_, _/_, _≤_, ℕ}
 use native.Mathlib.Omega.{arith}
@@ -16,11 +16,19 @@ use Rattle.registry.specs.Check.{holds}
 use Rattle.registry.specs.Code.{groupIn, projectOf}
 use Rattle.compose.specs.Code.{chosenIn}
 use Rattle.compose.proofs.Forcing.{length-forced}
-use Rattle.evaluate.specs.Verdict.{evaluate, fieldChecks, ifPassed, placeOf}
+use Rattle.evaluate.specs.Verdict.{evaluate, fieldChecks, ifPassed, placeOf, Verdict}
 use Rattle.evaluate.proofs.Place.{length-fieldChecks}
 use Rattle.classifier.specs.Code.{JudgingIn, ProjectsAs, forcedRow}
-use Rattle.classifier.specs.Page.{flag, projectionWords, words}
+use Rattle.classifier.specs.Page.{flag, projectionWords, words, wordsOf}
 use Rattle.classifier.proofs.Placing.{wide}
+
+-- ---- how many
+pub words-length : (v : Verdict) → length (words v) ≡ wordsOf (length (v .values))
+words-length v = go (v .projection)
+  where
+    go : (p : Option ℤ) → length (pos 0 ∷ pos 0 ∷ (projectionWords p ++ v .values)) ≡ wordsOf (length (v .values))
+    go none = omega arith
+    go (some x) = omega arith
 
 -- ---- words before a row
 pub put-two : (l : List ℤ) (a b : ℤ) → 4 ≤ length l → set (set l 2 a) 3 b ≡ take 2 l ++ (a ∷ b ∷ drop 4 l)

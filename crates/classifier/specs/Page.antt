@@ -10,15 +10,11 @@ use Rattle.lists.specs.Lists.{concatMap, eqList}
 use Rattle.spec.specs.Spec.{Spec}
 use Rattle.spec.specs.Record.{decoded}
 use Rattle.spec.specs.Refusal.{Refused, refuseIf, _▷_, Answer, answer, unlessRefused}
-use Rattle.compose.specs.Tuples.{Engine, zeros, emitted}
+use Rattle.compose.specs.Tuples.{Engine, zeros, emitted, padded}
 use Rattle.evaluate.specs.Verdict.{Verdict, passed}
 use Rattle.classifier.specs.Count.{verdictOf, countFault}
 
 -- ---- start
--- An index tuple as page takes and gives it: 32 numbers, past n all 0.
-abbrev pub padded : List ℕ → List ℕ
-padded t = t ++ zeros (32 - length t)
-
 pub data Start : Type 0 where
   beginning : Start
   afterTuple : List ℕ → Start

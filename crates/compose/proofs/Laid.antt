@@ -19,9 +19,10 @@ use Rattle.spec.proofs.Fields.{kind-of, length-records}
 use Rattle.spec.proofs.Shapes.{field-kind, length-domain}
 use Rattle.registry.specs.Code.{groupIn}
 use Rattle.compose.specs.Maps.{allowed}
-use Rattle.compose.specs.Code.{FieldIn, fieldsIn, listPlaces, listsBy, packedLists, padded, startsFrom}
+use Rattle.compose.specs.Code.{FieldIn, fieldsIn, listPlaces, listsBy, packedLists, startsFrom}
 use Rattle.compose.proofs.Allowed.{allowed-le}
 use Rattle.compose.proofs.Positions.{groups-done, groups-loop}
+use Rattle.compose.specs.Tuples.{padded}
 
 -- ---- a field where it lies
 abbrev fieldAt : List ℕ → ℕ → ℕ → FieldSpec

@@ -10,7 +10,7 @@ use lib.Dec.{eqb}
 use lib.IntN.{natAbs, pos, ℤ}
 use lib.ListN.{drop, drop-of-length-le, getD, length, length-append, length-set, set, take, take-append-drop}
 use lib.Seq.{append-snoc, drop-cons, drop-drop, drop-length, drop-set-lt, getD-drop, length-take-le, take-all, take-at, take-suc, take-suc-set}
-use Rattle.lists.specs.Lists.{any, consIf, filter, orElse}
+use Rattle.lists.specs.Lists.{any, consIf, filter, orElse, over}
 use Rattle.lists.proofs.All.{none-any}
 use Rattle.lists.proofs.Lists.{filter-none}
 use Rattle.spec.specs.Code.{asRecord}
@@ -20,19 +20,11 @@ use Rattle.spec.specs.Spec.{Bitmask, Even, Ge, Gt, Le, Lt, Oneof, Range, Test}
 use Rattle.spec.specs.declared.records.Record as code
 use Rattle.registry.specs.Code.{groupIn, passes, testBy, testIn}
 use Rattle.compose.specs.Maps.{narrowBy, narrowIf}
-use Rattle.compose.specs.Code.{keptBy, narrowsKind, narrowsTest, over}
+use Rattle.compose.specs.Code.{keptBy, narrowsKind, narrowsTest}
 
 -- The test of head h with the members given.
 abbrev pub testOf : code.Record → List ℕ → ℤ → Bool
 testOf h run = passes (testIn (kindOf (h .code)) (h .p) (h .q) (recordsOf run))
-
--- ---- a list written from the front, until it is d
-module _ (d l : List ℤ) (i : ℕ) (e : length l ≡ length d) (t : take i l ≡ take i d) where
-  pub fill-turn : (x : ℤ) → i < length d → x ≡ getD d i (pos 0) → take (i + 1) (set l i x) ≡ take (i + 1) d
-  fill-turn x h v = rw (add-one i) (take-suc-set l i x (omega arith) ∙ ap₂ (λ (a : List ℤ) (b : ℤ). a ++ (b ∷ [])) t v ∙ sym (take-suc d i (pos 0) h))
-
-  pub fill-end : length d ≤ i → l ≡ d
-  fill-end h = sym (take-all i l (omega arith)) ∙ t ∙ take-all i d h
 
 -- ---- the values from i on
 module _ (l : List ℤ) (i : ℕ) where

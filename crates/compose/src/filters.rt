@@ -13,14 +13,14 @@ ghost use mathlib.Core.List.{foldl, map};
 ghost use Prim.Native.Nat.{suc, _≤_, _<_};
 ghost use lib.IntN.{pos};
 ghost use lib.ListN.{length, getD, take, replicate};
-ghost use Rattle.lists.specs.Lists.{any, concatMap, filter, orElse, sumN};
+ghost use Rattle.lists.specs.Lists.{any, concatMap, filter, orElse, sumN, over};
 ghost use Rattle.spec.specs.Code.{asRecord, InScale};
 ghost use Rattle.spec.specs.Domain.{domain};
 ghost use Rattle.spec.specs.Kind.{kindOf};
 ghost use Rattle.spec.specs.Record.{constraintOf, fieldBy, fieldOf, recordsOf};
 ghost use Rattle.registry.specs.Code.{groupIn, HeadIn, maskIn, passes, testIn};
 ghost use Rattle.compose.specs.Maps.{allowed, narrowBy};
-ghost use Rattle.compose.specs.Code.{constraintsIn, fieldsIn, FieldIn, FieldsIn, HeadsIn, keptBy, listPlaces, listsBy, narrowsKind, over, packedLists};
+ghost use Rattle.compose.specs.Code.{constraintsIn, fieldsIn, FieldIn, FieldsIn, HeadsIn, keptBy, listPlaces, listsBy, narrowsKind, packedLists};
 
 // Zeros.
 pub fn clear(list: &mut [i64])

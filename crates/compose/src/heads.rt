@@ -7,10 +7,7 @@ ghost use lib.ListN.{length, take};
 ghost use Rattle.spec.specs.Record.{recordsOf, groups};
 ghost use Rattle.compose.specs.Code.{groupsIn, Rising};
 
-// 32 fields, 256 constraints, a projector, and the end.
-pub const HEADS: usize = 290;
-
-// The records at which the groups start, and the end of the file: count + 1 numbers.
+// The records at which the groups start, and the end of the file: count + 1 numbers. There are at most 32 fields, 256 constraints and a projector.
 pub struct Heads {
     pub count: usize,
     pub at: [usize; 290],

@@ -22,14 +22,6 @@ use Rattle.spec.proofs.Files.{laid}
 use Rattle.join.specs.Code.{addUse, bytesAt, joinedNumber, movedRange, totalBy}
 use Rattle.join.specs.Join.{addIf, moveBytes, moves, sumBytes}
 
--- ---- bytes written from the front, until they are d
-module _ (d l : List ℕ) (i : ℕ) (e : length l ≡ length d) (t : take i l ≡ take i d) where
-  pub fill-turn : (x : ℕ) → i < length d → x ≡ getD d i 0 → take (i + 1) (set l i x) ≡ take (i + 1) d
-  fill-turn x h v = rw (add-one i) (take-suc-set l i x (omega arith) ∙ ap₂ (λ (a : List ℕ) (b : ℕ). a ++ (b ∷ [])) t v ∙ sym (take-suc d i 0 h))
-
-  pub fill-end : length d ≤ i → l ≡ d
-  fill-end h = sym (take-all i l (omega arith)) ∙ t ∙ take-all i d h
-
 -- ---- bytes written part by part
 put-mid : (at k m : ℕ) (out ys : List ℕ) → at ≤ length out → length ys ≡ m → take (at + m) (putMid at k out ys) ≡ take at out ++ ys
 put-mid at k m out ys o y =

@@ -19,6 +19,7 @@ use Rattle.evaluate.specs.Verdict.{Verdict, passed}
 use Rattle.classifier.specs.Page.{flag, projectionWords, words, wordsOf}
 use Rattle.listing.specs.Text.{decimal, newline, passedLetter, projectionText, signedDecimal, spaced, verdictLine}
 use Rattle.listing.specs.Words.{bytesFor, canList, lineOf, linesOf}
+use Rattle.classifier.proofs.Wording.{words-length}
 
 -- ---- a verdict's words
 flag-one : (b : Bool) → eqZ (flag b) (pos 1) ≡ b
@@ -39,13 +40,6 @@ line-words v = go (v .projection)
     go : (p : Option ℤ) → lineOf (flag (passed v) ∷ pos (v .place) ∷ (projectionWords p ++ v .values)) ≡ passedLetter (passed v) ∷ (spaced (decimal (v .place)) ++ (spaced (projectionText p) ++ values))
     go none = letter (spaced (decimal (v .place)) ++ (spaced (projectionText none) ++ values))
     go (some x) = letter (spaced (decimal (v .place)) ++ (spaced (projectionText (some x)) ++ values))
-
-words-length : (v : Verdict) → length (words v) ≡ wordsOf (length (v .values))
-words-length v = go (v .projection)
-  where
-    go : (p : Option ℤ) → length (pos 0 ∷ pos 0 ∷ (projectionWords p ++ v .values)) ≡ wordsOf (length (v .values))
-    go none = omega arith
-    go (some x) = omega arith
 
 -- ---- lines
 -- The lines of the words of verdicts on n fields are the lines of the verdicts.

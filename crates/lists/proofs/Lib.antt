@@ -12,3 +12,4 @@ pub mod Bits
 pub mod Integers
 pub mod Words
 pub mod Signed
+pub mod Filling

@@ -3,6 +3,7 @@ use mathlib.Core.Bool.{Bool, true, false, _&&_, _||_}
 use mathlib.Core.List.{List, [], _∷_, _++_, map}
 use Prim.Native.Nat.{ℕ, zero, suc, _+_, _*_}
 use lib.Dec.{eqb}
+use lib.ListN.{drop, length}
 
 module _ {A : Type 0} where
   -- x in front of xs, where the test is true
@@ -25,6 +26,10 @@ module _ {A : Type 0} where
   abbrev pub isEmpty : List A → Bool
   isEmpty [] = true
   isEmpty (x ∷ xs) = false
+
+  -- A list as it stands after its first elements were replaced by new ones.
+  abbrev pub over : List A → List A → List A
+  over new old = new ++ drop (length new) old
 
   -- ys, unless it is empty
   abbrev pub orElse : List A → List A → List A

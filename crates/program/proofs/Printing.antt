@@ -23,7 +23,7 @@ use Rattle.spec.proofs.Accepted.{decoded-few, file-good}
 use Rattle.spec.proofs.Named.{width}
 use Rattle.spec.proofs.Refusals.{▷-left}
 use Rattle.compose.specs.Force.{force, forcingOrder}
-use Rattle.compose.specs.Tuples.{Engine, emitted, listsOf, values}
+use Rattle.compose.specs.Tuples.{Engine, emitted, listsOf, values, padded}
 use Rattle.compose.proofs.Emitted.{candidates-length, emitted-candidates, held, length-listsOf}
 use Rattle.compose.proofs.Forcing.{length-forced}
 use Rattle.compose.proofs.Found.{no-emitted}
@@ -31,13 +31,14 @@ use Rattle.compose.proofs.Rows.{length-values}
 use Rattle.evaluate.specs.Verdict.{Verdict}
 use Rattle.classifier.specs.Count.{countFault, verdictOf}
 use Rattle.classifier.specs.Count as counting
-use Rattle.classifier.specs.Page.{Page, Start, afterTuple, beginning, due, dueTuples, fitCount, following, padded, pageAnswer, pageFault, pageOf, pageOutput, pageWords, projectionWords, restIf, words, wordsOf}
+use Rattle.classifier.specs.Page.{Page, Start, afterTuple, beginning, due, dueTuples, fitCount, following, pageAnswer, pageFault, pageOf, pageOutput, pageWords, projectionWords, restIf, words, wordsOf}
 use Rattle.listing.specs.Text.{decimal, endLine, newline, refusedLine, spaced, verdictLine}
 use Rattle.listing.specs.Words.{afterIf, canList, linesOf, putIf}
 use Rattle.listing.proofs.Buffer.{put-first}
 use Rattle.listing.proofs.Decimal.{decimal-short}
 use Rattle.listing.proofs.Lines.{lines-fit, lines-front, lines-words, listed}
 use Rattle.program.specs.Printed.{fieldsIf, fieldsOr, isMore, pageLines}
+use Rattle.classifier.proofs.Wording.{words-length}
 
 -- ---- how many fields
 pub fields-refused : (file : List ℕ) (r : Refused) → fileFault file ≡ some r → 0 ≡ fieldsOr file
@@ -104,13 +105,6 @@ concat-mapped f g (x ∷ xs) = ap (λ l. f (g x) ++ l) (concat-mapped f g xs)
 length-mapped : {A B : Type 0} (g : A → B) (xs : List A) → length (map g xs) ≡ length xs
 length-mapped g [] = refl
 length-mapped g (x ∷ xs) = ap suc (length-mapped g xs)
-
-words-length : (v : Verdict) → length (words v) ≡ wordsOf (length (v .values))
-words-length v = go (v .projection)
-  where
-    go : (p : Option ℤ) → length (pos 0 ∷ pos 0 ∷ (projectionWords p ++ v .values)) ≡ wordsOf (length (v .values))
-    go none = omega arith
-    go (some x) = omega arith
 
 -- The words of verdicts on n fields are n + 4 for each.
 words-many : (n : ℕ) {vs : List Verdict} → All (λ v. length (words v) ≡ wordsOf n) vs → length (concatMap words vs) ≡ length vs * wordsOf n

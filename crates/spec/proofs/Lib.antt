@@ -18,3 +18,4 @@ pub mod Accepted
 pub mod Shapes
 pub mod Answers
 pub mod Places
+pub mod Numbered

@@ -12,13 +12,14 @@ use Rattle.spec.specs.Record.{decoded}
 use Rattle.compose.specs.Code.{Opened, Planned, asEngine, planIn, soundNumber}
 use Rattle.compose.specs.Walk.{Plan}
 use Rattle.compose.proofs.Prepared.{opened-few}
-use Rattle.classifier.specs.Code.{asStart, isStart, lateFault, overWords, refusedWith}
+use Rattle.classifier.specs.Code.{asStart, isStart, lateFault, refusedWith}
 use Rattle.classifier.specs.Page.{due, dueTuples, isNone, pageOf, pageWords}
 use Rattle.classifier.proofs.Answered.{room-domains}
 use Rattle.classifier.proofs.Late.{fieldless, gives-page, gives-refused, late-none, late-number, late-sound, late-start, none-due}
 use Rattle.classifier.proofs.Starts.{Wide, start-wide}
 use Rattle.classifier.proofs.page.page_lent.Statement.{statement}
 use Rattle.classifier.proofs.page.page_lent.Tie as tie
+use Rattle.lists.specs.Lists.{over}
 
 start-long : (s : tie.Start) → Wide (asStart (s .args .start))
 start-long s = start-wide (s .args .start) (search needs)
@@ -83,7 +84,7 @@ returns : tie.Need-returns
 returns c =
     let s = c .before .before .before .before .before .before .before in
     let q = c .before .before .before .prepare in
-    gives-refused (lateFault (asEngine (s .args .engine)) (decoded (s .args .file .now)) (length (s .args .out .now)) (asStart (s .args .start))) (pageOf (decoded (s .args .file .now)) (length (s .args .out .now)) (dueTuples (asEngine (s .args .engine)) (decoded (s .args .file .now)) (asStart (s .args .start))) (asStart (s .args .start))) (overWords (pageWords (asEngine (s .args .engine)) (decoded (s .args .file .now)) (length (s .args .out .now)) (dueTuples (asEngine (s .args .engine)) (decoded (s .args .file .now)) (asStart (s .args .start)))) (s .args .out .now)) (s .args .out .now) (refusedWith (q .result .number)) (late-sound (asEngine (s .args .engine)) (decoded (s .args .file .now)) (length (s .args .out .now)) (asStart (s .args .start)) (q .result .number) (q .ensures .0) (c .before .if1 .taken)) _ _ (c .refuse .ensures .0) (c .refuse .ensures .1)
+    gives-refused (lateFault (asEngine (s .args .engine)) (decoded (s .args .file .now)) (length (s .args .out .now)) (asStart (s .args .start))) (pageOf (decoded (s .args .file .now)) (length (s .args .out .now)) (dueTuples (asEngine (s .args .engine)) (decoded (s .args .file .now)) (asStart (s .args .start))) (asStart (s .args .start))) (over (pageWords (asEngine (s .args .engine)) (decoded (s .args .file .now)) (length (s .args .out .now)) (dueTuples (asEngine (s .args .engine)) (decoded (s .args .file .now)) (asStart (s .args .start)))) (s .args .out .now)) (s .args .out .now) (refusedWith (q .result .number)) (late-sound (asEngine (s .args .engine)) (decoded (s .args .file .now)) (length (s .args .out .now)) (asStart (s .args .start)) (q .result .number) (q .ensures .0) (c .before .if1 .taken)) _ _ (c .refuse .ensures .0) (c .refuse .ensures .1)
 
 slice-aggregate-late-number : tie.Need-slice-aggregate-late-number
 slice-aggregate-late-number c = search needs
@@ -110,7 +111,7 @@ returns-2 : tie.Need-returns-2
 returns-2 c =
     let s = c .before .before .before .before .before .before .before .before .before .before .before .before .before .before .before .before in
     let n = c .before .before .late-number in
-    gives-refused (lateFault (asEngine (s .args .engine)) (decoded (s .args .file .now)) (length (s .args .out .now)) (asStart (s .args .start))) (pageOf (decoded (s .args .file .now)) (length (s .args .out .now)) (dueTuples (asEngine (s .args .engine)) (decoded (s .args .file .now)) (asStart (s .args .start))) (asStart (s .args .start))) (overWords (pageWords (asEngine (s .args .engine)) (decoded (s .args .file .now)) (length (s .args .out .now)) (dueTuples (asEngine (s .args .engine)) (decoded (s .args .file .now)) (asStart (s .args .start)))) (s .args .out .now)) (s .args .out .now) (refusedWith (n .result)) (late-number (asEngine (s .args .engine)) (decoded (s .args .file .now)) (length (s .args .out .now)) (asStart (s .args .start)) (plan (c .before .before .before .before .before .before .before .before .before .before .before .before)) (planned (c .before .before .before .before .before .before .before .before .before .before) .plan-is) (sound (c .before .before .before .before .before .before .before .before .before .before)) (no-start (c .before .before .before .before .before .before .before)) (n .result) (n .ensures) (c .before .if2 .taken)) _ _ (c .refuse2 .ensures .0) (c .refuse2 .ensures .1)
+    gives-refused (lateFault (asEngine (s .args .engine)) (decoded (s .args .file .now)) (length (s .args .out .now)) (asStart (s .args .start))) (pageOf (decoded (s .args .file .now)) (length (s .args .out .now)) (dueTuples (asEngine (s .args .engine)) (decoded (s .args .file .now)) (asStart (s .args .start))) (asStart (s .args .start))) (over (pageWords (asEngine (s .args .engine)) (decoded (s .args .file .now)) (length (s .args .out .now)) (dueTuples (asEngine (s .args .engine)) (decoded (s .args .file .now)) (asStart (s .args .start)))) (s .args .out .now)) (s .args .out .now) (refusedWith (n .result)) (late-number (asEngine (s .args .engine)) (decoded (s .args .file .now)) (length (s .args .out .now)) (asStart (s .args .start)) (plan (c .before .before .before .before .before .before .before .before .before .before .before .before)) (planned (c .before .before .before .before .before .before .before .before .before .before) .plan-is) (sound (c .before .before .before .before .before .before .before .before .before .before)) (no-start (c .before .before .before .before .before .before .before)) (n .result) (n .ensures) (c .before .if2 .taken)) _ _ (c .refuse2 .ensures .0) (c .refuse2 .ensures .1)
 
 written-requires : tie.Need-written-requires
 written-requires c κs = search needs
@@ -122,7 +123,7 @@ returns-3 : tie.Need-returns-3
 returns-3 c =
     let s = c .before .before .before .before .before .before .before .before .before .before .before .before .before .before .before .before .before in
     let w = fieldless (asEngine (s .args .engine)) (decoded (s .args .file .now)) (length (s .args .out .now)) (s .args .out .now) (asStart (s .args .start)) (s .pre .0 .fields-many ∙ c .before .if3 .taken) (sym (ap (λ (p : Plan). isStart p (asStart (s .args .start))) (planned (c .before .before .before .before .before .before .before .before .before .before .before) .plan-is)) ∙ begins (c .before .before)) in
-    gives-page (lateFault (asEngine (s .args .engine)) (decoded (s .args .file .now)) (length (s .args .out .now)) (asStart (s .args .start))) (pageOf (decoded (s .args .file .now)) (length (s .args .out .now)) (dueTuples (asEngine (s .args .engine)) (decoded (s .args .file .now)) (asStart (s .args .start))) (asStart (s .args .start))) (overWords (pageWords (asEngine (s .args .engine)) (decoded (s .args .file .now)) (length (s .args .out .now)) (dueTuples (asEngine (s .args .engine)) (decoded (s .args .file .now)) (asStart (s .args .start)))) (s .args .out .now)) (s .args .out .now) (not-late (c .before .before)) (c .written .result .answer) (c .written .result .last) (s .args .out .now) (c .written .ensures .0 ∙ w .0) (w .1)
+    gives-page (lateFault (asEngine (s .args .engine)) (decoded (s .args .file .now)) (length (s .args .out .now)) (asStart (s .args .start))) (pageOf (decoded (s .args .file .now)) (length (s .args .out .now)) (dueTuples (asEngine (s .args .engine)) (decoded (s .args .file .now)) (asStart (s .args .start))) (asStart (s .args .start))) (over (pageWords (asEngine (s .args .engine)) (decoded (s .args .file .now)) (length (s .args .out .now)) (dueTuples (asEngine (s .args .engine)) (decoded (s .args .file .now)) (asStart (s .args .start)))) (s .args .out .now)) (s .args .out .now) (not-late (c .before .before)) (c .written .result .answer) (c .written .result .last) (s .args .out .now) (c .written .ensures .0 ∙ w .0) (w .1)
 
 slice-aggregate-page-of : tie.Need-slice-aggregate-page-of
 slice-aggregate-page-of c = search needs
@@ -154,7 +155,7 @@ returns-4 : tie.Need-returns-4
 returns-4 c =
     let s = c .before .before .before .before .before .before .before .before .before .before .before .before .before .before .before .before .before .before .before .before .before .before .before in
     let r = c .before .page-of in
-    gives-page (lateFault (asEngine (s .args .engine)) (decoded (s .args .file .now)) (length (s .args .out .now)) (asStart (s .args .start))) (pageOf (decoded (s .args .file .now)) (length (s .args .out .now)) (dueTuples (asEngine (s .args .engine)) (decoded (s .args .file .now)) (asStart (s .args .start))) (asStart (s .args .start))) (overWords (pageWords (asEngine (s .args .engine)) (decoded (s .args .file .now)) (length (s .args .out .now)) (dueTuples (asEngine (s .args .engine)) (decoded (s .args .file .now)) (asStart (s .args .start)))) (s .args .out .now)) (s .args .out .now) (not-late (c .before .before .before .before .before .before .before .before)) (r .result .answer) (r .result .last) (r .last .1 .1 .1 .1 .1 .1 .1 .1 .1 .0) (r .ensures .0) (r .ensures .1)
+    gives-page (lateFault (asEngine (s .args .engine)) (decoded (s .args .file .now)) (length (s .args .out .now)) (asStart (s .args .start))) (pageOf (decoded (s .args .file .now)) (length (s .args .out .now)) (dueTuples (asEngine (s .args .engine)) (decoded (s .args .file .now)) (asStart (s .args .start))) (asStart (s .args .start))) (over (pageWords (asEngine (s .args .engine)) (decoded (s .args .file .now)) (length (s .args .out .now)) (dueTuples (asEngine (s .args .engine)) (decoded (s .args .file .now)) (asStart (s .args .start)))) (s .args .out .now)) (s .args .out .now) (not-late (c .before .before .before .before .before .before .before .before)) (r .result .answer) (r .result .last) (r .last .1 .1 .1 .1 .1 .1 .1 .1 .1 .0) (r .ensures .0) (r .ensures .1)
 
 pub page-lent-spec : {M : Type 1} → statement M
 page-lent-spec =

@@ -5,9 +5,9 @@ use native.Mathlib.Omega.{arith}
 use borrow.Author.Needs.{needs}
 use lib.IntN.{pos}
 use lib.ListN.{getD-replicate, length, length-replicate, length-set, replicate, take}
-use Rattle.compose.proofs.Narrowing.{fill-end, fill-turn}
 use Rattle.compose.proofs.filters.clear.Statement.{statement}
 use Rattle.compose.proofs.filters.clear.Tie as tie
+use Rattle.lists.proofs.Filling.{fill-turn, fill-end}
 
 abbrev Inv-loop : tie.InvT-loop
 Inv-loop list₀ i₀ list i = (i ≤ length list₀) × (length list ≡ length list₀) × (take i list ≡ take i (replicate (length list₀) (pos 0)))
@@ -37,7 +37,7 @@ loop-again c =
     let e = length-replicate n (pos 0) in (
       omega arith,
       length-set (l .list) (l .i) (pos 0) ∙ l .inv .1,
-      fill-turn (replicate n (pos 0)) (l .list) (l .i) (l .inv .1 ∙ sym e) (l .inv .2) (pos 0) (omega arith) (sym (getD-replicate n (l .i) (pos 0) (pos 0) (omega arith))),
+      fill-turn (pos 0) (replicate n (pos 0)) (l .list) (l .i) (l .inv .1 ∙ sym e) (l .inv .2) (pos 0) (omega arith) (sym (getD-replicate n (l .i) (pos 0) (pos 0) (omega arith))),
     )
 
 same-length : tie.Need-same-length Inv-loop μ-loop
@@ -48,7 +48,7 @@ returns c =
     let l = c .before .loop in
     let n = length (c .before .before .args .list .now) in
     let e = length-replicate n (pos 0) in
-    fill-end (replicate n (pos 0)) (l .list) (l .i) (l .inv .1 ∙ sym e) (l .inv .2) (omega arith)
+    fill-end (pos 0) (replicate n (pos 0)) (l .list) (l .i) (l .inv .1 ∙ sym e) (l .inv .2) (omega arith)
 
 pub clear-spec : {M : Type 1} → statement M
 clear-spec =

@@ -1,4 +1,5 @@
 -- `compose::filters::lay_domain` meets its contract. The invariant: the first i values are those of the domain.
+use lib.IntN.{pos}
 use mathlib.Core.Path.{_∙_, _≡_, refl}
 use Prim.Native.Nat.{_-_, _≤_}
 use native.Mathlib.Omega.{arith}
@@ -10,9 +11,9 @@ use mir.ValLaws.{toZ-ofZ}
 use Rattle.spec.specs.Code.{asRecord}
 use Rattle.spec.specs.Domain.{domain}
 use Rattle.spec.specs.Record.{fieldBy, recordsOf}
-use Rattle.compose.proofs.Narrowing.{fill-end, fill-turn}
 use Rattle.compose.proofs.filters.lay_domain.Statement.{statement}
 use Rattle.compose.proofs.filters.lay_domain.Tie as tie
+use Rattle.lists.proofs.Filling.{fill-turn, fill-end}
 
 abbrev Inv-loop : tie.InvT-loop
 Inv-loop h values list₀ i₀ list i = (i ≤ length list₀) × (length list ≡ length list₀) × (take i list ≡ take i (domain (fieldBy (h .b) (asRecord h) (recordsOf values))))
@@ -51,7 +52,7 @@ loop-again c =
     let v : toZ w64 (ofZ w64 x) ≡ x = toZ-ofZ w64 x (sfits-of (c .struct-told .given .0 .1)) in (
       omega arith,
       length-set (l .list) (l .i) (toZ w64 (ofZ w64 x)) ∙ l .inv .1,
-      fill-turn d (l .list) (l .i) (l .inv .1 ∙ e) (l .inv .2) (toZ w64 (ofZ w64 x)) (omega arith) (v ∙ c .before .domain-value .ensures),
+      fill-turn (pos 0) d (l .list) (l .i) (l .inv .1 ∙ e) (l .inv .2) (toZ w64 (ofZ w64 x)) (omega arith) (v ∙ c .before .domain-value .ensures),
     )
 
 same-length : tie.Need-same-length Inv-loop μ-loop
@@ -63,7 +64,7 @@ returns c =
     let l = c .before .loop in
     let d = domain (fieldBy (s .args .h .b) (asRecord (s .args .h)) (recordsOf (s .args .values .now))) in
     let e = s .pre .1 in
-    fill-end d (l .list) (l .i) (l .inv .1 ∙ e) (l .inv .2) (omega arith)
+    fill-end (pos 0) d (l .list) (l .i) (l .inv .1 ∙ e) (l .inv .2) (omega arith)
 
 pub lay-domain-spec : {M : Type 1} → statement M
 lay-domain-spec =

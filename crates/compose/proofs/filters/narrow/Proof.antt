@@ -5,10 +5,10 @@ use lib.ListN.{length}
 use Rattle.spec.specs.Kind.{kindOf}
 use Rattle.spec.specs.Record.{recordsOf}
 use Rattle.registry.specs.Code.{testIn}
-use Rattle.compose.specs.Code.{over}
 use Rattle.compose.proofs.Narrowing.{kept-none, kept-some, over-same}
 use Rattle.compose.proofs.filters.narrow.Statement.{statement}
 use Rattle.compose.proofs.filters.narrow.Tie as tie
+use Rattle.lists.specs.Lists.{over}
 
 any-meets-requires : tie.Need-any-meets-requires
 any-meets-requires c κs = search needs

@@ -13,10 +13,11 @@ use Rattle.lists.proofs.Tests.{and-false, and-join, eqb-no, eqb-yes}
 use Rattle.spec.specs.Kind.{kindOf}
 use Rattle.spec.specs.Record.{Record}
 use Rattle.registry.specs.Code.{maskIn, testIn}
-use Rattle.compose.specs.Code.{keptBy, narrowsKind, over}
+use Rattle.compose.specs.Code.{keptBy, narrowsKind}
 use Rattle.compose.proofs.Narrowing.{narrowed-is, over-same}
 use Rattle.compose.proofs.filters.narrow_by.Statement.{statement}
 use Rattle.compose.proofs.filters.narrow_by.Tie as tie
+use Rattle.lists.specs.Lists.{over}
 
 record-at-requires : tie.Need-record-at-requires
 record-at-requires c κs = let b = c .before .pre .before in let i = c .before .pre .inside in omega arith

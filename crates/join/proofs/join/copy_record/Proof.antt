@@ -5,9 +5,9 @@ use native.Mathlib.Omega.{arith}
 use borrow.Author.Needs.{needs}
 use lib.ListN.{drop, length, length-drop, length-set, take}
 use lib.Seq.{getD-drop, getD-take, length-take-le}
-use Rattle.join.proofs.Written.{fill-end, fill-turn}
 use Rattle.join.proofs.join.copy_record.Statement.{statement}
 use Rattle.join.proofs.join.copy_record.Tie as tie
+use Rattle.lists.proofs.Filling.{fill-turn, fill-end}
 
 abbrev Inv-loop : tie.InvT-loop
 Inv-loop file from out₀ j₀ out j = (j ≤ 32) × (length out ≡ 32) × (take j out ≡ take j (take 32 (drop from file)))
@@ -49,7 +49,7 @@ loop-again c =
     let e = copied c in (
       omega arith,
       length-set (l .out) (l .j) _ ∙ l .inv .1,
-      fill-turn (take 32 (drop from file)) (l .out) (l .j) (omega arith) (l .inv .2) _ (omega arith) (sym (getD-take 32 (drop from file) (l .j) 0 (omega arith) ∙ getD-drop from file (l .j) 0)),
+      fill-turn 0 (take 32 (drop from file)) (l .out) (l .j) (omega arith) (l .inv .2) _ (omega arith) (sym (getD-take 32 (drop from file) (l .j) 0 (omega arith) ∙ getD-drop from file (l .j) 0)),
     )
 
 same-length : tie.Need-same-length Inv-loop μ-loop
@@ -61,7 +61,7 @@ returns c =
     let l = c .before .loop in
     let d = length-drop (s .args .from) (s .args .file .now) in
     let e = length-take-le 32 (drop (s .args .from) (s .args .file .now)) (omega arith) in
-    fill-end (take 32 (drop (s .args .from) (s .args .file .now))) (l .out) (l .j) (omega arith) (l .inv .2) (omega arith)
+    fill-end 0 (take 32 (drop (s .args .from) (s .args .file .now))) (l .out) (l .j) (omega arith) (l .inv .2) (omega arith)
 
 pub copy-record-spec : {M : Type 1} → statement M
 copy-record-spec =

@@ -5,9 +5,10 @@ use Prim.Native.Nat.{_-_, _≤_, ℕ}
 use native.Mathlib.Omega.{arith}
 use borrow.Author.Needs.{needs}
 use lib.ListN.{getD-replicate, length, length-set, replicate, set, take}
-use Rattle.join.proofs.Written.{fill-end, fill-turn, sum-set}
+use Rattle.join.proofs.Written.{sum-set}
 use Rattle.join.proofs.join.put_sum.Statement.{statement}
 use Rattle.join.proofs.join.put_sum.Tie as tie
+use Rattle.lists.proofs.Filling.{fill-turn, fill-end}
 
 abbrev Inv-loop : tie.InvT-loop
 Inv-loop out₀ j₀ out j = (j ≤ 32) × (length out ≡ 32) × (take j out ≡ take j (replicate 32 0))
@@ -32,7 +33,7 @@ loop-again c =
     let l = c .before .loop in (
       omega arith,
       length-set (l .out) (l .j) 0 ∙ l .inv .1,
-      fill-turn (replicate 32 0) (l .out) (l .j) (l .inv .1) (l .inv .2) 0 (omega arith) (sym (getD-replicate 32 (l .j) 0 0 (omega arith))),
+      fill-turn 0 (replicate 32 0) (l .out) (l .j) (l .inv .1) (l .inv .2) 0 (omega arith) (sym (getD-replicate 32 (l .j) 0 0 (omega arith))),
     )
 
 slice-write-out-2 : tie.Need-slice-write-out-2 Inv-loop μ-loop
@@ -44,7 +45,7 @@ same-length c = length-set (c .before .loop .out) 0 30 ∙ omega arith
 returns : tie.Need-returns Inv-loop μ-loop
 returns c =
     let l = c .before .loop in
-    ap (λ (z : List ℕ). set z 0 30) (fill-end (replicate 32 0) (l .out) (l .j) (l .inv .1) (l .inv .2) (omega arith)) ∙ sum-set
+    ap (λ (z : List ℕ). set z 0 30) (fill-end 0 (replicate 32 0) (l .out) (l .j) (l .inv .1) (l .inv .2) (omega arith)) ∙ sum-set
 
 pub put-sum-spec : {M : Type 1} → statement M
 put-sum-spec =
