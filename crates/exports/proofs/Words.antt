@@ -9,7 +9,7 @@ use borrow.Rule.Slice.PartMut.{putMid}
 use lib.Dec.{eqb, leb, ltb}
 use lib.ListN.{drop, length, set, take}
 use Rattle.lists.specs.Lists.{over}
-use Rattle.lists.proofs.Tests.{leb-no, leb-yes, ltb-no, no-ge, yes-le, yes-lt}
+use Rattle.lists.proofs.Tests.{eqb-no, leb-no, leb-yes, ltb-no, no-ge, yes-le, yes-lt}
 use Rattle.spec.specs.Domain.{total}
 use Rattle.spec.specs.Record.{decoded}
 use Rattle.spec.specs.Refusal.{Answer, Refused, fileFault, refused, unlessRefused}
@@ -50,6 +50,9 @@ module _ {A : Type 0} (new old : A) (long known : Bool) where
   pub kept-unknown : long ≡ true → known ≡ false → old ≡ ifCalled long known new old
   kept-unknown l k = rw (l, k)
 
+pub written : {A : Type 0} (new old : A) (long : Bool) → long ≡ true → new ≡ ifCalled long true new old
+written new old long l = rw l
+
 -- An answer that is told is the one that is given, and so are its words.
 module _ {R A : Type 0} (words : Answer R A → List ℕ) (told given : Answer R A) (long : Bool) (l : long ≡ true) (is : told ≡ given) where
   pub answered : (new old : List ℕ) → new ≡ over (words told) old → (status true true told ≡ status long true given) × (new ≡ ifCalled long true (over (words given) old) old)
@@ -79,13 +82,16 @@ pub start-tuple : (l t : List ℕ) → ¬ (length l ≡ 0) → t ≡ take 32 l �
 start-tuple [] t h e = absurd (h refl)
 start-tuple (x ∷ l) t h e = ap afterTuple e
 
+not-none : (l : List ℕ) (x : ℕ) → (not (eqb (length (x ∷ l)) 0) && ltb (length (x ∷ l)) 32) ≡ ltb (suc (length l)) 32
+not-none l x = ap (λ (b : Bool). not b && ltb (suc (length l)) 32) (eqb-no (suc (length l)) 0 (λ e. omega arith))
+
 pub start-short : (l : List ℕ) → (not (eqb (length l) 0) && ltb (length l) 32) ≡ true → isStart l ≡ false
 start-short [] e = sym e
-start-short (x ∷ l) e = leb-no 32 (suc (length l)) (yes-lt (suc (length l)) 32 e)
+start-short (x ∷ l) e = leb-no 32 (suc (length l)) (yes-lt (suc (length l)) 32 (sym (not-none l x) ∙ e))
 
 pub start-fine : (l : List ℕ) → (not (eqb (length l) 0) && ltb (length l) 32) ≡ false → isStart l ≡ true
 start-fine [] e = refl
-start-fine (x ∷ l) e = leb-yes 32 (suc (length l)) (no-ge (suc (length l)) 32 e)
+start-fine (x ∷ l) e = leb-yes 32 (suc (length l)) (no-ge (suc (length l)) 32 (sym (not-none l x) ∙ e))
 
 -- ---- a file that is accepted
 pub spec-told : (file : List ℕ) (shape : code.Shape) (scratch : ℕ) → fileFault file ≡ none → ShapeIs file shape → scratch ≡ unlessRefused (fileFault file) (scratchFor (decoded file)) 0

@@ -1,4 +1,5 @@
 -- `exports::count_into` meets its contract.
+use mathlib.Core.Bool.{true}
 use mathlib.Core.Path.{_∙_, ap, refl, sym}
 use lib.ListN.{length}
 use Rattle.spec.specs.Refusal.{accepted, refused}
