@@ -6,9 +6,10 @@ use mathlib.Core.Path.{_∙_, _≡_, ap, refl, subst, sym}
 use Prim.Native.Nat.{_<_, _≤_, suc, ℕ}
 use native.Mathlib.Omega.{arith}
 use borrow.Rule.Slice.PartMut.{putMid}
+use mir.Val.{boolByte}
 use lib.Dec.{eqb, leb, ltb}
 use lib.ListN.{drop, length, set, take}
-use Rattle.lists.specs.Lists.{over}
+use Rattle.lists.specs.Lists.{over, sucIf}
 use Rattle.lists.proofs.Tests.{eqb-no, leb-no, leb-yes, ltb-no, no-ge, yes-le, yes-lt}
 use Rattle.spec.specs.Domain.{total}
 use Rattle.spec.specs.Record.{decoded}
@@ -100,6 +101,12 @@ spec-told file shape scratch fine is e =
     let s : scratch ≡ scratchFor (decoded file) = e ∙ ap (λ (o : Option Refused). unlessRefused o (scratchFor (decoded file)) 0) fine in
     λ i. is .fields i ∷ is .constraints i ∷ is .total-is i ∷ s i ∷ []
 
--- ---- a page that is refused
+-- ---- a page
+-- A Bool as a number.
+pub flag-number : (b : Bool) → boolByte b ≡ sucIf b 0
+flag-number true = refl
+flag-number false = refl
+
+-- The last tuple of one that is refused.
 pub last-none : (a : Answer Refused Page) (r : Refused) (last : List ℕ) → refused r ≡ a → last ≡ lastBy a → last ≡ lastBy (refused r)
 last-none a r last is e = e ∙ ap lastBy (sym is)

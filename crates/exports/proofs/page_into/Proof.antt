@@ -11,7 +11,7 @@ use Rattle.classifier.specs.Code.{asPage, asStart}
 use Rattle.classifier.specs.Page.{pageAnswer}
 use Rattle.classifier.specs.declared.page.Answer as code
 use Rattle.exports.specs.Calls.{answerWords, pageWords}
-use Rattle.exports.proofs.Words.{answered, last-none}
+use Rattle.exports.proofs.Words.{answered, flag-number, last-none}
 use borrow.Author.Needs.{needs}
 use Rattle.exports.proofs.page_into.Statement.{statement}
 use Rattle.exports.proofs.page_into.Tie as tie
@@ -72,7 +72,7 @@ returns-2 c =
     let told = c .before .before .before .before .before .answer2 .given in
     let put = c .before .before .put-page2 in
     let is = ap (λ (v : code.Answer). asPage v (page .result .last)) (sym (told .1)) ∙ page .ensures .0 in
-    let given = answered (answerWords 34 pageWords) (accepted (record { count = told .0 .0; last = page .result .last; done = told .0 .1 .0 })) (pageAnswer (asEngine (a .engine)) (length (a .scratch .now)) (length (a .out .now)) (a .file .now) (asStart (a .start))) true refl is (put .last .0) (a .words .now) (put .ensures) in
+    let given = answered (answerWords 34 pageWords) (accepted (record { count = told .0 .0; last = page .result .last; done = told .0 .1 .0 })) (pageAnswer (asEngine (a .engine)) (length (a .scratch .now)) (length (a .out .now)) (a .file .now) (asStart (a .start))) true refl is (put .last .0) (a .words .now) (put .ensures ∙ ap (λ (k : ℕ). over (told .0 .0 ∷ k ∷ page .result .last) (a .words .now)) (flag-number (told .0 .1 .0))) in
     (given .0, (given .1, page .ensures .1 .1))
 
 pub page-into-spec : {M : Type 1} → statement M

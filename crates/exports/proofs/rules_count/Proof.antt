@@ -15,8 +15,7 @@ use Rattle.exports.proofs.rules_count.Tie as tie
 returns : tie.Need-returns
 returns c =
     let a = c .before .before .before .args in
-    let short = leb-no 4 (length (a .words .now)) (c .if1 .taken) in
-    (
+    let short = leb-no 4 (length (a .words .now)) (c .if1 .taken) in (
       status-short (countAnswer (engineOf (a .engine)) (length (a .scratch .now)) (a .file .now)) (leb 4 (length (a .words .now))) (isEngine (a .engine)) short,
       (
         kept-short (over (answerWords 4 countWords (countAnswer (engineOf (a .engine)) (length (a .scratch .now)) (a .file .now))) (a .words .now)) (a .words .now) (leb 4 (length (a .words .now))) (isEngine (a .engine)) short,
@@ -43,8 +42,7 @@ returns-2 c =
     let is = c .before .before .before .before .before .before .match .keys1 in
     let long = leb-yes 4 (length (a .words .now)) (c .before .before .before .before .before .before .before .if1 .left) in
     let known = ap isEngine is in
-    let engine = ap engineOf is in
-    (
+    let engine = ap engineOf is in (
       call .ensures .0 ∙ engine-status (a .engine) structural (leb 4 (length (a .words .now))) long known engine (λ (e : Engine). countAnswer (e) (length (a .scratch .now)) (a .file .now)),
       (
         call .ensures .1 .0 ∙ engine-left (a .engine) structural (leb 4 (length (a .words .now))) long known engine (λ (e : Engine). over (answerWords 4 countWords (countAnswer (e) (length (a .scratch .now)) (a .file .now))) (a .words .now)) (a .words .now),
@@ -65,8 +63,7 @@ returns-3 c =
     let is = c .before .before .before .before .before .before .match .keys2 in
     let long = leb-yes 4 (length (a .words .now)) (c .before .before .before .before .before .before .before .if1 .left) in
     let known = ap isEngine is in
-    let engine = ap engineOf is in
-    (
+    let engine = ap engineOf is in (
       call .ensures .0 ∙ engine-status (a .engine) exhaustive (leb 4 (length (a .words .now))) long known engine (λ (e : Engine). countAnswer (e) (length (a .scratch .now)) (a .file .now)),
       (
         call .ensures .1 .0 ∙ engine-left (a .engine) exhaustive (leb 4 (length (a .words .now))) long known engine (λ (e : Engine). over (answerWords 4 countWords (countAnswer (e) (length (a .scratch .now)) (a .file .now))) (a .words .now)) (a .words .now),
@@ -78,8 +75,7 @@ returns-4 : tie.Need-returns-4
 returns-4 c =
     let a = c .before .before .before .before .args in
     let long = leb-yes 4 (length (a .words .now)) (c .before .if1 .left) in
-    let unknown = no-engine (a .engine) (c .match .rest .0 .1) (c .match .rest .1) in
-    (
+    let unknown = no-engine (a .engine) (c .match .rest .0 .1) (c .match .rest .1) in (
       status-unknown (countAnswer (engineOf (a .engine)) (length (a .scratch .now)) (a .file .now)) (leb 4 (length (a .words .now))) (isEngine (a .engine)) long unknown,
       (
         kept-unknown (over (answerWords 4 countWords (countAnswer (engineOf (a .engine)) (length (a .scratch .now)) (a .file .now))) (a .words .now)) (a .words .now) (leb 4 (length (a .words .now))) (isEngine (a .engine)) long unknown,

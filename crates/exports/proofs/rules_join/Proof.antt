@@ -19,8 +19,7 @@ use Rattle.exports.proofs.rules_join.Tie as tie
 returns : tie.Need-returns
 returns c =
     let a = c .before .before .before .before .before .args in
-    let short = leb-no 4 (length (a .words .now)) (c .if1 .taken) in
-    (
+    let short = leb-no 4 (length (a .words .now)) (c .if1 .taken) in (
       status-short (joinAnswer (length (a .out .now)) (a .first .now) (a .second .now)) (leb 4 (length (a .words .now))) true short,
       (kept-short (over (joinWords (joinAnswer (length (a .out .now)) (a .first .now) (a .second .now))) (a .words .now)) (a .words .now) (leb 4 (length (a .words .now))) true short, kept-short (joinOutput (a .first .now) (a .second .now) (a .out .now)) (a .out .now) (leb 4 (length (a .words .now))) true short),
     )

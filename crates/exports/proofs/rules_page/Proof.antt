@@ -17,8 +17,7 @@ use Rattle.exports.proofs.rules_page.Tie as tie
 returns : tie.Need-returns
 returns c =
     let a = c .before .before .before .before .args in
-    let short = ap (λ (b : Bool). isStart (a .start .now) && b) (leb-no 34 (length (a .words .now)) (c .if1 .taken)) ∙ and-false (isStart (a .start .now)) in
-    (
+    let short = ap (λ (b : Bool). isStart (a .start .now) && b) (leb-no 34 (length (a .words .now)) (c .if1 .taken)) ∙ and-false (isStart (a .start .now)) in (
       status-short (pageAnswer (engineOf (a .engine)) (length (a .scratch .now)) (length (a .out .now)) (a .file .now) (startOf (a .start .now))) (isStart (a .start .now) && leb 34 (length (a .words .now))) (isEngine (a .engine)) short,
       (
         kept-short (over (answerWords 34 pageWords (pageAnswer (engineOf (a .engine)) (length (a .scratch .now)) (length (a .out .now)) (a .file .now) (startOf (a .start .now)))) (a .words .now)) (a .words .now) (isStart (a .start .now) && leb 34 (length (a .words .now))) (isEngine (a .engine)) short,
@@ -32,8 +31,7 @@ returns c =
 returns-2 : tie.Need-returns-2
 returns-2 c =
     let a = c .before .before .before .before .before .args in
-    let short = ap (λ (b : Bool). b && leb 34 (length (a .words .now))) (start-short (a .start .now) (c .if2 .taken)) in
-    (
+    let short = ap (λ (b : Bool). b && leb 34 (length (a .words .now))) (start-short (a .start .now) (c .if2 .taken)) in (
       status-short (pageAnswer (engineOf (a .engine)) (length (a .scratch .now)) (length (a .out .now)) (a .file .now) (startOf (a .start .now))) (isStart (a .start .now) && leb 34 (length (a .words .now))) (isEngine (a .engine)) short,
       (
         kept-short (over (answerWords 34 pageWords (pageAnswer (engineOf (a .engine)) (length (a .scratch .now)) (length (a .out .now)) (a .file .now) (startOf (a .start .now)))) (a .words .now)) (a .words .now) (isStart (a .start .now) && leb 34 (length (a .words .now))) (isEngine (a .engine)) short,
@@ -70,8 +68,7 @@ returns-3 c =
     let start = c .before .before .before .before .before .before .before .before .before .start-of .ensures in
     let long = and-join (start-fine (a .start .now) (c .before .before .before .before .before .before .before .before .before .before .if2 .left)) (leb-yes 34 (length (a .words .now)) (c .before .before .before .before .before .before .before .before .before .before .before .if1 .left)) in
     let known = ap isEngine is in
-    let engine = ap engineOf is in
-    (
+    let engine = ap engineOf is in (
       call .ensures .0 ∙ ap (λ (s : Start). status true true (pageAnswer (structural) (length (a .scratch .now)) (length (a .out .now)) (a .file .now) (s))) start ∙ engine-status (a .engine) structural (isStart (a .start .now) && leb 34 (length (a .words .now))) long known engine (λ (e : Engine). pageAnswer (e) (length (a .scratch .now)) (length (a .out .now)) (a .file .now) (startOf (a .start .now))),
       (
         call .ensures .1 .0 ∙ ap (λ (s : Start). over (answerWords 34 pageWords (pageAnswer (structural) (length (a .scratch .now)) (length (a .out .now)) (a .file .now) (s))) (a .words .now)) start ∙ engine-left (a .engine) structural (isStart (a .start .now) && leb 34 (length (a .words .now))) long known engine (λ (e : Engine). over (answerWords 34 pageWords (pageAnswer (e) (length (a .scratch .now)) (length (a .out .now)) (a .file .now) (startOf (a .start .now)))) (a .words .now)) (a .words .now),
@@ -99,8 +96,7 @@ returns-4 c =
     let start = c .before .before .before .before .before .before .before .before .before .start-of .ensures in
     let long = and-join (start-fine (a .start .now) (c .before .before .before .before .before .before .before .before .before .before .if2 .left)) (leb-yes 34 (length (a .words .now)) (c .before .before .before .before .before .before .before .before .before .before .before .if1 .left)) in
     let known = ap isEngine is in
-    let engine = ap engineOf is in
-    (
+    let engine = ap engineOf is in (
       call .ensures .0 ∙ ap (λ (s : Start). status true true (pageAnswer (exhaustive) (length (a .scratch .now)) (length (a .out .now)) (a .file .now) (s))) start ∙ engine-status (a .engine) exhaustive (isStart (a .start .now) && leb 34 (length (a .words .now))) long known engine (λ (e : Engine). pageAnswer (e) (length (a .scratch .now)) (length (a .out .now)) (a .file .now) (startOf (a .start .now))),
       (
         call .ensures .1 .0 ∙ ap (λ (s : Start). over (answerWords 34 pageWords (pageAnswer (exhaustive) (length (a .scratch .now)) (length (a .out .now)) (a .file .now) (s))) (a .words .now)) start ∙ engine-left (a .engine) exhaustive (isStart (a .start .now) && leb 34 (length (a .words .now))) long known engine (λ (e : Engine). over (answerWords 34 pageWords (pageAnswer (e) (length (a .scratch .now)) (length (a .out .now)) (a .file .now) (startOf (a .start .now)))) (a .words .now)) (a .words .now),
@@ -115,8 +111,7 @@ returns-5 : tie.Need-returns-5
 returns-5 c =
     let a = c .before .before .before .before .before .before .before .args in
     let long = and-join (start-fine (a .start .now) (c .before .before .if2 .left)) (leb-yes 34 (length (a .words .now)) (c .before .before .before .if1 .left)) in
-    let unknown = no-engine (a .engine) (c .match .rest .0 .1) (c .match .rest .1) in
-    (
+    let unknown = no-engine (a .engine) (c .match .rest .0 .1) (c .match .rest .1) in (
       status-unknown (pageAnswer (engineOf (a .engine)) (length (a .scratch .now)) (length (a .out .now)) (a .file .now) (startOf (a .start .now))) (isStart (a .start .now) && leb 34 (length (a .words .now))) (isEngine (a .engine)) long unknown,
       (
         kept-unknown (over (answerWords 34 pageWords (pageAnswer (engineOf (a .engine)) (length (a .scratch .now)) (length (a .out .now)) (a .file .now) (startOf (a .start .now)))) (a .words .now)) (a .words .now) (isStart (a .start .now) && leb 34 (length (a .words .now))) (isEngine (a .engine)) long unknown,

@@ -20,8 +20,7 @@ use Rattle.exports.proofs.rules_validate.Tie as tie
 returns : tie.Need-returns
 returns c =
     let a = c .before .before .before .args in
-    let short = leb-no 4 (length (a .words .now)) (c .if1 .taken) in
-    (
+    let short = leb-no 4 (length (a .words .now)) (c .if1 .taken) in (
       status-short (answer (fileFault (a .file .now)) (decoded (a .file .now))) (leb 4 (length (a .words .now))) true short,
       kept-short (over (answerWords 4 specWords (answer (fileFault (a .file .now)) (decoded (a .file .now)))) (a .words .now)) (a .words .now) (leb 4 (length (a .words .now))) true short,
     )
