@@ -35,3 +35,21 @@ pub fn outcome(status: u8, answer: &[usize]) -> Result<(), Refused> {
         _ => panic!("libexports gave status {status}"),
     }
 }
+
+#[cfg(test)]
+mod tests {
+    use super::*;
+
+    #[test]
+    fn no_memory_is_an_error() {
+        for len in [usize::MAX, usize::MAX / 8, 1 << 59] {
+            assert_eq!(buffer::<i64>(len), Err(Error::OutOfMemory(len)));
+        }
+    }
+
+    #[test]
+    #[should_panic(expected = "status 2")]
+    fn a_status_that_cannot_be_is_loud() {
+        let _ = outcome(ffi::TOO_SHORT, &[0; ffi::ANSWER]);
+    }
+}
