@@ -3,11 +3,10 @@
 use std::path::{Path, PathBuf};
 use std::{env, process};
 
+/// A relative `RULES_LIB_DIR` is relative to this crate.
 fn library_dir() -> PathBuf {
-    match env::var_os("RULES_LIB_DIR") {
-        Some(dir) => PathBuf::from(dir),
-        None => Path::new(env!("CARGO_MANIFEST_DIR")).join("../../target/staticlib"),
-    }
+    let dir = env::var_os("RULES_LIB_DIR").unwrap_or("../../target/staticlib".into());
+    Path::new(env!("CARGO_MANIFEST_DIR")).join(dir)
 }
 
 fn main() {

@@ -26,8 +26,8 @@
 //!
 //! A row that was skipped looks just like a row that the rules forbid. So the iterators yield a
 //! [`Result`] for each row, and an error ends them: a listing is whole only if no item is an
-//! error. Collect into a `Result`, as above, or use `?`; never drop the errors with `flatten` or
-//! `filter_map`.
+//! error. Collect into a `Result`, as above, or use `?` on each item; `flatten`, `skip` and the
+//! like would drop the error.
 //!
 //! # Panics
 //!

@@ -4,7 +4,7 @@ use std::io::{self, IsTerminal, Write};
 use std::time::{Duration, Instant};
 
 /// From this total on it is said how far a run is.
-const LONG: usize = 1_000_000;
+const LONG: usize = 10_000_000;
 
 /// The time between two lines.
 const PAUSE: Duration = Duration::from_millis(250);
