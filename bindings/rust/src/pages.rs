@@ -1,5 +1,6 @@
 //! A listing, page by page.
 
+use std::fmt;
 use std::iter::FusedIterator;
 use std::slice::ChunksExact;
 
@@ -14,7 +15,6 @@ const FEWEST: usize = 1 << 16;
 const MOST: usize = 1 << 22;
 
 /// The pages of a listing, one at a time.
-#[derive(Clone, Debug)]
 pub struct Pages<'a> {
     rules: &'a Rules,
     engine: Engine,
@@ -27,6 +27,8 @@ pub struct Pages<'a> {
     ended: bool,
     /// How many verdicts the present page has.
     len: usize,
+    /// How many verdicts the pages had so far.
+    read: usize,
 }
 
 impl<'a> Pages<'a> {
@@ -44,7 +46,13 @@ impl<'a> Pages<'a> {
             start: Vec::new(),
             ended: false,
             len: 0,
+            read: 0,
         }
+    }
+
+    /// The words of a verdict.
+    fn width(&self) -> usize {
+        self.rules.fields() + ffi::ROW
     }
 
     /// How many verdicts the present page has.
@@ -59,15 +67,14 @@ impl<'a> Pages<'a> {
         if !self.ended {
             // Stays so if there is an error.
             self.ended = true;
-            self.read()?;
+            self.read_page()?;
         }
         Ok(self.len > 0)
     }
 
-    fn read(&mut self) -> Result<(), Error> {
-        let words = self.rules.fields() + ffi::ROW;
+    fn read_page(&mut self) -> Result<(), Error> {
         // No listing has more verdicts than the total, so this does not overflow.
-        let out_len = self.size.min(self.rules.total()) * words;
+        let out_len = self.size.min(self.rules.total()) * self.width();
         if self.scratch.len() != self.rules.scratch() {
             self.scratch = buffer(self.rules.scratch())?;
         }
@@ -88,11 +95,12 @@ impl<'a> Pages<'a> {
         Ok(())
     }
 
-    /// Takes an accepted page. A page that is empty, or longer than its room, would lose rows.
+    /// Takes an accepted page. With an answer that the contract excludes, rows would be lost or
+    /// repeated.
     fn take(&mut self, answer: [usize; ffi::PAGE_ANSWER]) {
         let [len, done, tuple @ ..] = answer;
         assert!(
-            len * (self.rules.fields() + ffi::ROW) <= self.out.len(),
+            len <= self.out.len() / self.width(),
             "libexports wrote {len} verdicts, which do not fit"
         );
         self.ended = match done {
@@ -102,27 +110,44 @@ impl<'a> Pages<'a> {
         };
         self.start = tuple.to_vec();
         self.len = len;
+        self.read += len;
+        assert!(
+            self.read <= self.rules.total(),
+            "libexports wrote more verdicts than the total"
+        );
     }
 
-    fn words(&self) -> ChunksExact<'_, i64> {
-        let words = self.rules.fields() + ffi::ROW;
-        self.out[..self.len * words].chunks_exact(words)
+    fn rows(&self) -> ChunksExact<'_, i64> {
+        let width = self.width();
+        self.out[..self.len * width].chunks_exact(width)
     }
 
     /// How many verdicts of the present page passed.
     pub fn passed(&self) -> usize {
-        self.words().filter(|words| flag(words[0])).count()
+        self.rows().filter(|row| flag(row[0])).count()
     }
 
     /// A verdict of the present page.
     fn verdict(&self, row: usize) -> Verdict {
-        let words = self.rules.fields() + ffi::ROW;
-        Verdict::from_words(&self.out[row * words..(row + 1) * words])
+        let width = self.width();
+        Verdict::from_words(&self.out[row * width..(row + 1) * width])
+    }
+}
+
+/// The buffers can be long, and are left out.
+impl fmt::Debug for Pages<'_> {
+    fn fmt(&self, f: &mut fmt::Formatter<'_>) -> fmt::Result {
+        f.debug_struct("Pages")
+            .field("engine", &self.engine)
+            .field("size", &self.size)
+            .field("read", &self.read)
+            .field("ended", &self.ended)
+            .finish_non_exhaustive()
     }
 }
 
 /// The verdicts of a listing, from [`Rules::verdicts`].
-#[derive(Clone, Debug)]
+#[derive(Debug)]
 #[must_use = "iterators do nothing until they are read"]
 pub struct Verdicts<'a> {
     pages: Pages<'a>,
@@ -164,7 +189,7 @@ impl Iterator for Verdicts<'_> {
 impl FusedIterator for Verdicts<'_> {}
 
 /// The values of the passed verdicts, from [`Rules::passed_rows`].
-#[derive(Clone, Debug)]
+#[derive(Debug)]
 #[must_use = "iterators do nothing until they are read"]
 pub struct PassedRows<'a> {
     verdicts: Verdicts<'a>,

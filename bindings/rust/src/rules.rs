@@ -216,5 +216,6 @@ pub fn join(first: impl AsRef<[u8]>, second: impl AsRef<[u8]>) -> Result<Rules, 
     let status = ffi::join(first, second, &mut joined, &mut answer);
     outcome(status, &answer)?;
     joined.truncate(answer[0]);
+    // The joined file is accepted; this reads its shape.
     Ok(Rules::new(joined)?)
 }

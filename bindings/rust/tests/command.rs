@@ -75,10 +75,13 @@ fn wrong_calls() {
     let table: [(&[&str], &str); 16] = [
         (&[], "a subcommand is missing"),
         (&["sort"], "there is no subcommand `sort`"),
-        (&["list"], "list takes one file, not 0"),
-        (&["list", "-", "-"], "list takes one file, not 2"),
-        (&["join", "-"], "join takes two files, not 1"),
-        (&["join", "-", "-"], "standard input can be read only once"),
+        (&["list"], "list: files needed 1, given 0"),
+        (&["list", "-", "-"], "list: files needed 1, given 2"),
+        (&["join", "-"], "join: files needed 2, given 1"),
+        (
+            &["join", "-", "-"],
+            "join: standard input can be read only once",
+        ),
         (&["list", "--all", "-"], "list has no option `--all`"),
         (
             &["list", "--passed=1", "-"],
@@ -91,22 +94,25 @@ fn wrong_calls() {
         (&["list", "-", "--engine"], "--engine needs a value"),
         (
             &["list", "-", "--engine", "x"],
-            "--engine is structural or exhaustive, not `x`",
+            "list: --engine is structural or exhaustive, not `x`",
         ),
         (
             &["list", "-", "--limit", "-1"],
-            "--limit is a number of rows, not `-1`",
+            "list: --limit is a number of rows, not `-1`",
         ),
         (
             &["list", "-", "--limit=x"],
-            "--limit is a number of rows, not `x`",
+            "list: --limit is a number of rows, not `x`",
         ),
         (&["list", "-", "--csv", "--csv"], "--csv stands twice"),
         (
             &["list", "-", "--limit", "1", "--limit=1"],
             "--limit stands twice",
         ),
-        (&["list", "--", "--csv", "-"], "list takes one file, not 2"),
+        (
+            &["list", "--", "--csv", "-"],
+            "list: files needed 1, given 2",
+        ),
     ];
     for (arguments, wrong) in table {
         let message = format!("rules: {wrong}; `rules --help` says how to call it\n");

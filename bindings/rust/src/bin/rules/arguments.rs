@@ -42,60 +42,103 @@ pub struct List {
     pub csv: bool,
 }
 
-/// A subcommand: its name, its help, how many files it takes, its options without a value and
-/// its options with one.
+/// A subcommand: its name, its help, its options without a value, its options with one, and the
+/// call that it makes of what is given.
 struct Subcommand {
     name: &'static str,
     help: &'static str,
-    files: usize,
     flags: &'static [&'static str],
     valued: &'static [&'static str],
+    call: fn(Given) -> Result<Call, String>,
 }
 
 const SUBCOMMANDS: [Subcommand; 6] = [
     Subcommand {
         name: "assemble",
         help: help::ASSEMBLE,
-        files: 1,
         flags: &[],
         valued: &["-o"],
+        call: assemble,
     },
     Subcommand {
         name: "show",
         help: help::SHOW,
-        files: 1,
         flags: &["--numbers"],
         valued: &[],
+        call: show,
     },
     Subcommand {
         name: "check",
         help: help::CHECK,
-        files: 1,
         flags: &[],
         valued: &[],
+        call: check,
     },
     Subcommand {
         name: "count",
         help: help::COUNT,
-        files: 1,
         flags: &[],
         valued: &["--engine"],
+        call: count,
     },
     Subcommand {
         name: "list",
         help: help::LIST,
-        files: 1,
         flags: &["--passed", "--csv"],
         valued: &["--engine", "--limit"],
+        call: list,
     },
     Subcommand {
         name: "join",
         help: help::JOIN,
-        files: 2,
         flags: &[],
         valued: &["-o"],
+        call: join,
     },
 ];
+
+fn assemble(given: Given) -> Result<Call, String> {
+    let output = given.output();
+    let [text] = given.files()?;
+    Ok(Call::Assemble { text, output })
+}
+
+fn show(given: Given) -> Result<Call, String> {
+    let numbers = given.flag("--numbers");
+    let [file] = given.files()?;
+    Ok(Call::Show { file, numbers })
+}
+
+fn check(given: Given) -> Result<Call, String> {
+    let [file] = given.files()?;
+    Ok(Call::Check { file })
+}
+
+fn count(given: Given) -> Result<Call, String> {
+    let engine = given.engine()?;
+    let [file] = given.files()?;
+    Ok(Call::Count { file, engine })
+}
+
+fn list(given: Given) -> Result<Call, String> {
+    let options = List {
+        engine: given.engine()?,
+        passed: given.flag("--passed"),
+        limit: given.limit()?,
+        csv: given.flag("--csv"),
+    };
+    let [file] = given.files()?;
+    Ok(Call::List { file, options })
+}
+
+fn join(given: Given) -> Result<Call, String> {
+    let output = given.output();
+    let files: [OsString; 2] = given.files()?;
+    if files.iter().all(|file| file == "-") {
+        return Err(String::from("standard input can be read only once"));
+    }
+    Ok(Call::Join { files, output })
+}
 
 /// What follows the name of a subcommand.
 #[derive(Default)]
@@ -114,6 +157,13 @@ impl Given {
     fn value(&self, name: &str) -> Option<&OsStr> {
         let value = self.values.iter().find(|(given, _)| *given == name);
         value.map(|(_, value)| value.as_os_str())
+    }
+
+    /// The files, which must be as many as the subcommand takes.
+    fn files<const N: usize>(self) -> Result<[OsString; N], String> {
+        let found = self.files.len();
+        let files = self.files.try_into();
+        files.map_err(|_| format!("files needed {N}, given {found}"))
     }
 
     fn has(&self, name: &str) -> bool {
@@ -205,61 +255,6 @@ fn read_given(
     Ok(given)
 }
 
-fn check_files(subcommand: &Subcommand, files: &[OsString]) -> Result<(), String> {
-    if files.len() != subcommand.files {
-        let wanted = if subcommand.files == 1 {
-            "one file"
-        } else {
-            "two files"
-        };
-        return Err(format!(
-            "{} takes {wanted}, not {}",
-            subcommand.name,
-            files.len()
-        ));
-    }
-    if files.iter().filter(|file| *file == "-").count() > 1 {
-        return Err(String::from("standard input can be read only once"));
-    }
-    Ok(())
-}
-
-fn call_of(subcommand: &Subcommand, given: Given) -> Result<Call, String> {
-    if given.help {
-        return Ok(Call::Print(subcommand.help));
-    }
-    check_files(subcommand, &given.files)?;
-    let file = given.files[0].clone();
-    Ok(match subcommand.name {
-        "assemble" => Call::Assemble {
-            text: file,
-            output: given.output(),
-        },
-        "show" => Call::Show {
-            file,
-            numbers: given.flag("--numbers"),
-        },
-        "check" => Call::Check { file },
-        "count" => Call::Count {
-            file,
-            engine: given.engine()?,
-        },
-        "list" => Call::List {
-            file,
-            options: List {
-                engine: given.engine()?,
-                passed: given.flag("--passed"),
-                limit: given.limit()?,
-                csv: given.flag("--csv"),
-            },
-        },
-        _ => Call::Join {
-            files: [file, given.files[1].clone()],
-            output: given.output(),
-        },
-    })
-}
-
 /// Reads the words after `rules`. An error says what is wrong.
 pub fn read(mut words: impl Iterator<Item = OsString>) -> Result<Call, String> {
     let Some(first) = words.next() else {
@@ -277,5 +272,9 @@ pub fn read(mut words: impl Iterator<Item = OsString>) -> Result<Call, String> {
     else {
         return Err(format!("there is no subcommand `{name}`"));
     };
-    call_of(subcommand, read_given(subcommand, words)?)
+    let given = read_given(subcommand, words)?;
+    if given.help {
+        return Ok(Call::Print(subcommand.help));
+    }
+    (subcommand.call)(given).map_err(|wrong| format!("{name}: {wrong}"))
 }

@@ -57,7 +57,7 @@ impl Progress {
 
     /// As `at`, for a call at each row.
     pub fn at_row(&mut self, rows: usize) {
-        if rows % STRIDE == 0 {
+        if rows.is_multiple_of(STRIDE) {
             self.at(rows);
         }
     }
