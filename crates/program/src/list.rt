@@ -32,7 +32,7 @@ const WORDS: usize = 4096;
 const TEXT: usize = 86016;
 
 // How many fields an accepted file has.
-fn fields_of(file: &[u8]) -> usize
+pub fn fields_of(file: &[u8]) -> usize
     ensures { λ r. ⌜ r ≡ fieldsOr (now (file .entry)) ⌝ }
 {
     match validate(file) {
@@ -42,7 +42,7 @@ fn fields_of(file: &[u8]) -> usize
 }
 
 // The last line, at the start of the text; how many bytes.
-fn last_text(engine: Engine, file: &[u8], scratch: &mut [i64], text: &mut [u8; 96]) -> usize
+pub fn last_text(engine: Engine, file: &[u8], scratch: &mut [i64], text: &mut [u8; 96]) -> usize
     ensures counted { λ r. ⌜ Counts r (now (text .exit)) ⌝ }
     ensures line { λ r. ⌜ take r (now (text .exit)) ≡ lastLine (countAnswer (asEngine engine) (length (now (scratch .entry))) (now (file .entry))) ⌝ }
 {
