@@ -1,25 +1,24 @@
 //! compare BIN WORK --seed N --files N: the proved programs in BIN against the original.
 //! compare BIN WORK --seed N --sample FOLDER N: a sample of the original's answers.
+//! compare BIN WORK --file FILE: one file, and what the original says of it.
 
 mod coverage;
 mod examine;
-mod faults;
-mod generate;
-mod oracle;
 mod programs;
-mod random;
-mod reading;
-mod record;
 mod sample;
 mod shrink;
 
+use common::generate::{Aim, Focus, DENSE, LARGE, SMALL, USUAL, WIDE};
+use common::random::Random;
+use common::{faults, generate, oracle, reading, record};
 use coverage::Coverage;
-use examine::{examine, examine_join, Tally};
-use generate::{Aim, Focus, LARGE, SMALL, USUAL};
+use examine::{examine, examine_join, Tally, ENGINES};
 use programs::Programs;
-use random::Random;
 use std::path::Path;
 use std::process::exit;
+
+/// With so many files nothing may be left uncovered.
+const ENOUGH: usize = 5_000;
 
 struct Run {
     programs: Programs,
@@ -89,9 +88,11 @@ impl Run {
 
 fn aim(random: &mut Random) -> Aim {
     let focus = random.pick(&[Focus::None, Focus::None, Focus::Maps, Focus::Enables]);
-    let size = match random.below(20) {
-        0 => LARGE,
-        1..=4 => SMALL,
+    let size = match random.below(40) {
+        0 | 1 => LARGE,
+        2 => WIDE,
+        3 => DENSE,
+        4..=10 => SMALL,
         _ => USUAL,
     };
     Aim { focus, ..size }
@@ -147,6 +148,24 @@ fn compare(run: &mut Run, seed: u64, files: usize) {
     }
 }
 
+/// What was never met.
+fn missing(run: &Run) -> Vec<String> {
+    let mut all: Vec<String> = Vec::new();
+    all.extend(run.coverage.missing().iter().map(|t| t.to_string()));
+    for number in 1..=13 {
+        if !run.tally.refused.contains_key(&number) {
+            all.push(format!("refusal {number}"));
+        }
+    }
+    let joins = ["joined  1", "joined  5", "joined 10", "first 16"];
+    for key in joins.iter().chain(&["second 16"]) {
+        if !run.tally.unjoined.contains_key(*key) {
+            all.push(format!("join refused, {key}"));
+        }
+    }
+    all
+}
+
 fn report(run: &Run, files: usize) {
     let tally = &run.tally;
     println!("\nof the files that both engines of both programs listed, so many had:");
@@ -172,30 +191,31 @@ fn report(run: &Run, files: usize) {
         "\n{} listings equal the original's, {} rows; {} files under both engines",
         tally.listings, tally.rows, tally.both
     );
-    for thing in run.coverage.missing() {
+    let missing = missing(run);
+    for thing in &missing {
         println!("NOT COVERED: {thing}");
     }
-    for number in 1..=13 {
-        if !tally.refused.contains_key(&number) {
-            println!("NOT COVERED: refusal {number}");
-        }
-    }
-    for key in [
-        "joined  1",
-        "joined  5",
-        "joined 10",
-        "first 16",
-        "second 16",
-    ] {
-        if !tally.unjoined.contains_key(key) {
-            println!("NOT COVERED: join refused, {key}");
-        }
+    if files >= ENOUGH && !missing.is_empty() {
+        exit(1);
     }
     if tally.both < files {
         println!("TOO FEW: {} files of {files}", tally.both);
         exit(1);
     }
     println!("compare: {} files, 0 differences", run.files);
+}
+
+/// Compares one file, and prints what the original says of it.
+fn show(run: &mut Run, file: &[u8]) {
+    run.one("file", file);
+    match reading::judge(file) {
+        Err((number, record)) => println!("refused {number} {record}"),
+        Ok(rules) => {
+            for (engine, name) in ENGINES {
+                println!("{name}\n{}", oracle::list(engine, &rules));
+            }
+        }
+    }
 }
 
 fn main() {
@@ -231,6 +251,11 @@ fn main() {
         files: 0,
         products: 0,
     };
+    if let Some(path) = after("--file", 1) {
+        let file = std::fs::read(path).expect("cannot read the file");
+        show(&mut run, &file);
+        return;
+    }
     println!("seed {seed}");
     compare(&mut run, seed, files);
     report(&run, files);

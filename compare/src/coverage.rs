@@ -1,7 +1,7 @@
 //! How many files, of those that were compared with the original, had a thing.
 
-use crate::reading::*;
-use crate::record::*;
+use common::reading::*;
+use common::record::*;
 use std::collections::BTreeMap;
 
 #[derive(Default)]
@@ -38,7 +38,7 @@ const KINDS: [(u8, &str); 25] = [
 ];
 
 /// The things that an accepted file can have, so that one that is never met shows as 0.
-const THINGS: [&str; 44] = [
+const THINGS: [&str; 46] = [
     "form 0 without step",
     "form 0 with step",
     "form 1 without step",
@@ -46,6 +46,8 @@ const THINGS: [&str; 44] = [
     "form 2",
     "no field at all",
     "32 fields",
+    "100 constraints or more",
+    "a map of 100 pairs or more",
     "a domain with repeats",
     "a number at ±2^56",
     "a filter oneof that keeps none",
@@ -141,6 +143,11 @@ impl Coverage {
         self.mark("form 2", form(2, None));
         self.mark("no field at all", rules.fields.is_empty());
         self.mark("32 fields", rules.fields.len() == 32);
+        let many = rules.constraints.len() >= 100;
+        self.mark("100 constraints or more", many);
+        let long = |c: &Group| c.head.kind == CROSS && c.members.len() >= 100;
+        let map = rules.constraints.iter().any(long);
+        self.mark("a map of 100 pairs or more", map);
         let repeats = |f: &Group| {
             let mut list = domain(f);
             let many = list.len();

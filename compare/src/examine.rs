@@ -1,10 +1,10 @@
 //! One file, or a pair of them, through all programs.
 
 use crate::coverage::Coverage;
-use crate::oracle;
 use crate::programs::Programs;
-use crate::reading::{self, Engine, Listing, Refusal, Rules, Which};
-use crate::record::*;
+use common::oracle;
+use common::reading::{self, Engine, Listing, Refusal, Rules, Which};
+use common::record::*;
 use std::collections::BTreeMap;
 
 /// More rows than this are not listed.
@@ -91,7 +91,8 @@ fn judged_too(file: &[u8], tally: &mut Tally) -> Result<(), String> {
         }
         Err((9, r)) => {
             let head = records.iter().position(|r| r.kind == DECOMPOSE).unwrap();
-            if records[head].q < -1 {
+            // The original's offset is a u32, or absent.
+            if !(-1..=i64::from(u32::MAX)).contains(&records[head].q) {
                 return Ok(());
             }
             let member = |r: &&Record| r.kind == AXIS;

@@ -42,6 +42,24 @@ pub const LARGE: Aim = Aim {
     sum: false,
     focus: Focus::None,
 };
+/// As many constraints as there may be.
+pub const WIDE: Aim = Aim {
+    total: 300,
+    fields: 7,
+    constraints: 256,
+    members: 3,
+    sum: false,
+    focus: Focus::None,
+};
+/// Long lists and maps of hundreds of pairs.
+pub const DENSE: Aim = Aim {
+    total: 2_500,
+    fields: 4,
+    constraints: 8,
+    members: 200,
+    sum: false,
+    focus: Focus::None,
+};
 pub const SMALL: Aim = Aim {
     total: 60,
     fields: 4,

@@ -1,9 +1,9 @@
 //! A sample of small accepted files with the original's answers.
 
 use crate::examine::ENGINES;
-use crate::generate::{self, SMALL};
-use crate::random::Random;
-use crate::{oracle, reading};
+use common::generate::{self, SMALL};
+use common::random::Random;
+use common::{oracle, reading};
 use std::collections::BTreeSet;
 use std::fs;
 use std::path::Path;

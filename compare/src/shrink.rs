@@ -1,6 +1,6 @@
 //! Makes a file that shows a difference smaller, while it still shows one.
 
-use crate::record::*;
+use common::record::*;
 
 /// Without one field, its values and everything that names it; later fields move up.
 fn without_field(records: &[Record], field: u8) -> Vec<Record> {

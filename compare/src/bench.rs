@@ -1,0 +1,202 @@
+//! bench: times count of the static library and of the original over the same files.
+//! Each (file, engine, side) has a process of its own, so that its peak memory is its own.
+
+mod bench_files;
+
+use common::reading::Engine;
+use common::{oracle, reading};
+use ev::classification::Classification;
+use ev::verify::classifier::{Classify, NaiveClassifier};
+use ev::verify::evaluate::evaluate_structural;
+use ev::verify::registry::{ConstraintRegistry, ProjectorRegistry};
+use std::hint::black_box;
+use std::process::{exit, Command};
+use std::time::{Duration, Instant};
+
+#[link(name = "exports", kind = "static")]
+extern "C" {
+    fn rules_validate(file: *const u8, len: usize, answer: *mut usize, answer_len: usize) -> u8;
+    fn rules_count(
+        engine: u8,
+        file: *const u8,
+        len: usize,
+        scratch: *mut i64,
+        scratch_len: usize,
+        answer: *mut usize,
+        answer_len: usize,
+    ) -> u8;
+}
+
+const ENGINES: [(Engine, &str); 2] = [
+    (Engine::Structural, "structural"),
+    (Engine::Exhaustive, "exhaustive"),
+];
+
+/// Enough runs that their median says something, and no more.
+const LONG_ENOUGH: Duration = Duration::from_millis(600);
+const FEWEST_RUNS: usize = 3;
+const MOST_RUNS: usize = 100_000;
+
+/// The median of the runs' times, after a run that is not counted.
+fn median(mut run: impl FnMut()) -> f64 {
+    let begin = Instant::now();
+    run();
+    // A run of several seconds is its own warm-up.
+    let slow = begin.elapsed() > Duration::from_secs(4);
+    let begin = Instant::now();
+    let mut times = Vec::new();
+    while times.len() < MOST_RUNS {
+        let start = Instant::now();
+        run();
+        times.push(start.elapsed().as_nanos() as f64);
+        if slow || (times.len() >= FEWEST_RUNS && begin.elapsed() > LONG_ENOUGH) {
+            break;
+        }
+    }
+    times.sort_by(f64::total_cmp);
+    times[times.len() / 2]
+}
+
+/// The most memory that this process has held, in KiB.
+fn peak() -> usize {
+    let text = std::fs::read_to_string("/proc/self/status").expect("no /proc");
+    let line = text.lines().find(|l| l.starts_with("VmHWM"));
+    let digits = line.and_then(|l| l.split_whitespace().nth(1));
+    digits.map_or(0, |d| d.parse().unwrap())
+}
+
+/// Total, emitted, passed, failed; and nanoseconds for a call.
+type Measured = ([usize; 4], f64);
+
+fn ours(engine: Engine, file: &[u8]) -> Measured {
+    let mut needs = [0usize; 4];
+    let status = unsafe { rules_validate(file.as_ptr(), file.len(), needs.as_mut_ptr(), 4) };
+    assert_eq!(status, 0, "refused: {needs:?}");
+    // Lent as zeros; an accepted count leaves zeros.
+    let mut scratch = vec![0i64; needs[3]];
+    let mut answer = [0usize; 4];
+    let engine = u8::from(engine == Engine::Exhaustive);
+    let time = median(|| {
+        let file = black_box(file);
+        let status = unsafe {
+            rules_count(
+                engine,
+                file.as_ptr(),
+                file.len(),
+                scratch.as_mut_ptr(),
+                scratch.len(),
+                answer.as_mut_ptr(),
+                answer.len(),
+            )
+        };
+        assert_eq!(status, 0, "refused: {answer:?}");
+        black_box(&answer);
+    });
+    (answer, time)
+}
+
+/// The original has its specification and registries made before, and counts its verdicts.
+fn original(engine: Engine, file: &[u8]) -> Measured {
+    let rules = reading::judge(file).expect("refused");
+    let spec = oracle::specification(&rules);
+    let constraints = ConstraintRegistry::default();
+    let projectors = ProjectorRegistry::default();
+    let mut answer = [0usize; 4];
+    let time = median(|| {
+        let spec = black_box(&spec);
+        let c: Classification = match engine {
+            Engine::Structural => evaluate_structural(spec, &constraints, &projectors),
+            Engine::Exhaustive => NaiveClassifier.classify(spec, &constraints, &projectors),
+        }
+        .expect("the original refuses");
+        let (passed, failed) = c.counts();
+        answer = [c.total, c.verdicts.len(), passed, failed];
+        black_box(&answer);
+    });
+    (answer, time)
+}
+
+/// One measurement, in this process.
+fn one(side: &str, engine: &str, name: &str) {
+    let timed = bench_files::all();
+    let timed = timed.iter().find(|t| t.name == name).expect("no such file");
+    let engine = ENGINES.iter().find(|e| e.1 == engine).expect("no engine").0;
+    let (answer, time) = match side {
+        "ours" => ours(engine, &timed.file),
+        _ => original(engine, &timed.file),
+    };
+    let [total, emitted, passed, failed] = answer;
+    println!("{total} {emitted} {passed} {failed} {time} {}", peak());
+}
+
+struct Said {
+    counts: Vec<String>,
+    time: f64,
+    peak: f64,
+}
+
+fn ask(side: &str, engine: &str, name: &str) -> Said {
+    let me = std::env::current_exe().expect("no path");
+    let out = Command::new(me).args([side, engine, name]).output();
+    let out = out.expect("cannot run");
+    let text = String::from_utf8_lossy(&out.stdout).into_owned();
+    let words: Vec<String> = text.split_whitespace().map(str::to_string).collect();
+    if words.len() != 6 {
+        println!("{side} {engine} {name}: {} {text}", out.status);
+        println!("{}", String::from_utf8_lossy(&out.stderr));
+        exit(1);
+    }
+    Said {
+        counts: words[..4].to_vec(),
+        time: words[4].parse().unwrap(),
+        peak: words[5].parse::<f64>().unwrap() / 1024.0,
+    }
+}
+
+fn table() {
+    println!("| file | what | engine | verdicts | ours ns/verdict | Rust ns/verdict | Rust : ours | ours peak MiB | Rust peak MiB |");
+    println!("|---|---|---|---|---|---|---|---|---|");
+    for t in bench_files::all() {
+        for (engine, word) in ENGINES {
+            if engine == Engine::Exhaustive && !t.exhaustive {
+                continue;
+            }
+            let ours = ask("ours", word, t.name);
+            let emitted: f64 = ours.counts[1].parse().unwrap();
+            let mut line = format!(
+                "| {} | {} | {word} | {emitted} | {:.1} |",
+                t.name,
+                t.what,
+                ours.time / emitted
+            );
+            if t.original {
+                let rust = ask("original", word, t.name);
+                if rust.counts != ours.counts {
+                    println!(
+                        "{line} the counts differ: {:?} {:?}",
+                        ours.counts, rust.counts
+                    );
+                    exit(1);
+                }
+                line += &format!(
+                    " {:.1} | {:.1} | {:.1} | {:.1} |",
+                    rust.time / emitted,
+                    rust.time / ours.time,
+                    ours.peak,
+                    rust.peak
+                );
+            } else {
+                line += &format!(" | | {:.1} | |", ours.peak);
+            }
+            println!("{line}");
+        }
+    }
+}
+
+fn main() {
+    let words: Vec<String> = std::env::args().skip(1).collect();
+    match &words[..] {
+        [side, engine, name] => one(side, engine, name),
+        _ => table(),
+    }
+}
