@@ -11,7 +11,6 @@ use ev::verify::evaluate::evaluate_structural;
 use ev::verify::registry::{ConstraintRegistry, ProjectorRegistry};
 use std::hint::black_box;
 use std::process::{exit, Command};
-use std::time::{Duration, Instant};
 
 #[link(name = "exports", kind = "static")]
 extern "C" {
@@ -32,26 +31,50 @@ const ENGINES: [(Engine, &str); 2] = [
     (Engine::Exhaustive, "exhaustive"),
 ];
 
-/// Enough runs that their median says something, and no more.
-const LONG_ENOUGH: Duration = Duration::from_millis(600);
-const FEWEST_RUNS: usize = 3;
-const MOST_RUNS: usize = 100_000;
+/// Time goes by batches of calls, each long enough for the clock.
+const BATCH: f64 = 2e6;
+/// Enough batches that their median says something, and no more.
+const LONG_ENOUGH: f64 = 8e8;
+const FEWEST_BATCHES: usize = 3;
 
-/// The median of the runs' times, after a run that is not counted.
-fn median(mut run: impl FnMut()) -> f64 {
-    let begin = Instant::now();
-    run();
-    // A run of several seconds is its own warm-up.
-    let slow = begin.elapsed() > Duration::from_secs(4);
-    let begin = Instant::now();
+#[repr(C)]
+struct Time {
+    seconds: i64,
+    nanoseconds: i64,
+}
+
+extern "C" {
+    fn clock_gettime(clock: i32, time: *mut Time) -> i32;
+}
+
+/// Processor time of this thread, in nanoseconds, so that other work on the machine does not count.
+fn now() -> f64 {
+    const THREAD_CPUTIME: i32 = 3;
+    let mut t = Time {
+        seconds: 0,
+        nanoseconds: 0,
+    };
+    let status = unsafe { clock_gettime(THREAD_CPUTIME, &mut t) };
+    assert_eq!(status, 0, "no clock");
+    t.seconds as f64 * 1e9 + t.nanoseconds as f64
+}
+
+/// The median time of a call, after a batch that is not counted.
+fn median(mut call: impl FnMut()) -> f64 {
+    let start = now();
+    let mut calls = 0;
+    while calls == 0 || now() - start < BATCH {
+        call();
+        calls += 1;
+    }
+    let begin = now();
     let mut times = Vec::new();
-    while times.len() < MOST_RUNS {
-        let start = Instant::now();
-        run();
-        times.push(start.elapsed().as_nanos() as f64);
-        if slow || (times.len() >= FEWEST_RUNS && begin.elapsed() > LONG_ENOUGH) {
-            break;
+    while times.len() < FEWEST_BATCHES || now() - begin < LONG_ENOUGH {
+        let start = now();
+        for _ in 0..calls {
+            call();
         }
+        times.push((now() - start) / f64::from(calls));
     }
     times.sort_by(f64::total_cmp);
     times[times.len() / 2]
@@ -153,10 +176,11 @@ fn ask(side: &str, engine: &str, name: &str) -> Said {
     }
 }
 
-fn table() {
+fn table(only: Option<&str>) {
     println!("| file | what | engine | verdicts | ours ns/verdict | Rust ns/verdict | Rust : ours | ours peak MiB | Rust peak MiB |");
     println!("|---|---|---|---|---|---|---|---|---|");
-    for t in bench_files::all() {
+    let wanted = |name: &str| only.is_none_or(|o| o.split(',').any(|n| n == name));
+    for t in bench_files::all().iter().filter(|t| wanted(t.name)) {
         for (engine, word) in ENGINES {
             if engine == Engine::Exhaustive && !t.exhaustive {
                 continue;
@@ -179,7 +203,7 @@ fn table() {
                     exit(1);
                 }
                 line += &format!(
-                    " {:.1} | {:.1} | {:.1} | {:.1} |",
+                    " {:.1} | {:.2} | {:.1} | {:.1} |",
                     rust.time / emitted,
                     rust.time / ours.time,
                     ours.peak,
@@ -197,6 +221,7 @@ fn main() {
     let words: Vec<String> = std::env::args().skip(1).collect();
     match &words[..] {
         [side, engine, name] => one(side, engine, name),
-        _ => table(),
+        [option, names] if option == "--only" => table(Some(names)),
+        _ => table(None),
     }
 }
