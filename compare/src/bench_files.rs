@@ -6,7 +6,7 @@ pub struct Timed {
     pub name: &'static str,
     pub what: &'static str,
     pub file: Vec<u8>,
-    /// Whether the original can hold the structural and the exhaustive listing.
+    /// Whether the original can hold the verdicts.
     pub original: bool,
     /// Whether exhaustive is timed.
     pub exhaustive: bool,
@@ -129,6 +129,16 @@ pub fn all() -> Vec<Timed> {
         m.map(0, 1, 50, 16, 200, 4096);
         m.sum()
     };
+    let one_key_fastest = {
+        let mut m = Maker::ranges(&[10, 10, 1600]);
+        m.map(0, 2, 1, 800, 1600, 1);
+        m.sum()
+    };
+    let multiples_fastest = {
+        let mut m = Maker::listed(&[50, 100, 200], 4096);
+        m.map(0, 2, 50, 16, 200, 4096);
+        m.sum()
+    };
     let large = {
         let mut m = Maker::ranges(&[100, 100, 100, 100]);
         m.put(NEQ, 0, 1, 0, 0);
@@ -149,6 +159,14 @@ pub fn all() -> Vec<Timed> {
         timed("h1", "800 pairs, the child fastest", fastest),
         timed("h2", "one key with 800 pairs", one_key),
         timed("h3", "800 pairs, all multiples of 4096", multiples),
+        Timed {
+            exhaustive: false,
+            ..timed("h4", "h2 with the child fastest", one_key_fastest)
+        },
+        Timed {
+            exhaustive: false,
+            ..timed("h5", "h3 with the child fastest", multiples_fastest)
+        },
         timed(
             "i",
             "one verdict, the whole call",
