@@ -1,7 +1,9 @@
-//! bench: times count of the static library and of the original over the same files.
+//! bench: times count and page of the static library, and the original, over the same files.
 //! Each (file, engine, side) has a process of its own, so that its peak memory is its own.
 
 mod bench_files;
+
+use bench_files::Timed;
 
 use common::reading::Engine;
 use common::{oracle, reading};
@@ -21,6 +23,19 @@ extern "C" {
         len: usize,
         scratch: *mut i64,
         scratch_len: usize,
+        answer: *mut usize,
+        answer_len: usize,
+    ) -> u8;
+    fn rules_page(
+        engine: u8,
+        file: *const u8,
+        len: usize,
+        scratch: *mut i64,
+        scratch_len: usize,
+        out: *mut i64,
+        out_len: usize,
+        start: *const usize,
+        start_len: usize,
         answer: *mut usize,
         answer_len: usize,
     ) -> u8;
@@ -91,14 +106,23 @@ fn peak() -> usize {
 /// Total, emitted, passed, failed; and nanoseconds for a call.
 type Measured = ([usize; 4], f64);
 
-fn ours(engine: Engine, file: &[u8]) -> Measured {
+/// Fields, constraints, total, scratch needed.
+fn needs(file: &[u8]) -> [usize; 4] {
     let mut needs = [0usize; 4];
     let status = unsafe { rules_validate(file.as_ptr(), file.len(), needs.as_mut_ptr(), 4) };
     assert_eq!(status, 0, "refused: {needs:?}");
+    needs
+}
+
+fn code(engine: Engine) -> u8 {
+    u8::from(engine == Engine::Exhaustive)
+}
+
+fn counted(engine: Engine, file: &[u8]) -> Measured {
     // Lent as zeros; an accepted count leaves zeros.
-    let mut scratch = vec![0i64; needs[3]];
+    let mut scratch = vec![0i64; needs(file)[3]];
     let mut answer = [0usize; 4];
-    let engine = u8::from(engine == Engine::Exhaustive);
+    let engine = code(engine);
     let time = median(|| {
         let file = black_box(file);
         let status = unsafe {
@@ -116,6 +140,47 @@ fn ours(engine: Engine, file: &[u8]) -> Measured {
         black_box(&answer);
     });
     (answer, time)
+}
+
+/// All verdicts, a page of 65,536 words after the other; passed ones are counted as a caller would.
+fn paged(engine: Engine, file: &[u8]) -> Measured {
+    let [fields, _, total, numbers] = needs(file);
+    let mut scratch = vec![0i64; numbers];
+    let mut out = vec![0i64; 65_536];
+    let mut counts = [0usize; 4];
+    let engine = code(engine);
+    let time = median(|| {
+        let file = black_box(file);
+        let (mut emitted, mut passed) = (0, 0);
+        let mut start: Vec<usize> = Vec::new();
+        // How many, whether done, the last tuple.
+        let mut answer = [0usize; 34];
+        while answer[1] == 0 {
+            let status = unsafe {
+                rules_page(
+                    engine,
+                    file.as_ptr(),
+                    file.len(),
+                    scratch.as_mut_ptr(),
+                    scratch.len(),
+                    out.as_mut_ptr(),
+                    out.len(),
+                    start.as_ptr(),
+                    start.len(),
+                    answer.as_mut_ptr(),
+                    answer.len(),
+                )
+            };
+            assert_eq!(status, 0, "refused: {answer:?}");
+            emitted += answer[0];
+            let rows = out.chunks(fields + 4).take(answer[0]);
+            passed += rows.filter(|r| r[0] == 1).count();
+            start = answer[2..].to_vec();
+        }
+        counts = [total, emitted, passed, total - passed];
+        black_box(&counts);
+    });
+    (counts, time)
 }
 
 /// The original has its specification and registries made before, and counts its verdicts.
@@ -145,7 +210,8 @@ fn one(side: &str, engine: &str, name: &str) {
     let timed = timed.iter().find(|t| t.name == name).expect("no such file");
     let engine = ENGINES.iter().find(|e| e.1 == engine).expect("no engine").0;
     let (answer, time) = match side {
-        "ours" => ours(engine, &timed.file),
+        "count" => counted(engine, &timed.file),
+        "page" => paged(engine, &timed.file),
         _ => original(engine, &timed.file),
     };
     let [total, emitted, passed, failed] = answer;
@@ -177,44 +243,53 @@ fn ask(side: &str, engine: &str, name: &str) -> Said {
 }
 
 fn table(only: Option<&str>) {
-    println!("| file | what | engine | verdicts | ours ns/verdict | Rust ns/verdict | Rust : ours | ours peak MiB | Rust peak MiB |");
-    println!("|---|---|---|---|---|---|---|---|---|");
+    println!("| file | what | engine | verdicts | count ns/verdict | page ns/verdict | Rust ns/verdict | Rust : count | Rust : page | count peak MiB | page peak MiB | Rust peak MiB |");
+    println!("|---|---|---|---|---|---|---|---|---|---|---|---|");
     let wanted = |name: &str| only.is_none_or(|o| o.split(',').any(|n| n == name));
     for t in bench_files::all().iter().filter(|t| wanted(t.name)) {
         for (engine, word) in ENGINES {
-            if engine == Engine::Exhaustive && !t.exhaustive {
-                continue;
+            if engine == Engine::Structural || t.exhaustive {
+                println!("{}", line(t, word));
             }
-            let ours = ask("ours", word, t.name);
-            let emitted: f64 = ours.counts[1].parse().unwrap();
-            let mut line = format!(
-                "| {} | {} | {word} | {emitted} | {:.1} |",
-                t.name,
-                t.what,
-                ours.time / emitted
-            );
-            if t.original {
-                let rust = ask("original", word, t.name);
-                if rust.counts != ours.counts {
-                    println!(
-                        "{line} the counts differ: {:?} {:?}",
-                        ours.counts, rust.counts
-                    );
-                    exit(1);
-                }
-                line += &format!(
-                    " {:.1} | {:.2} | {:.1} | {:.1} |",
-                    rust.time / emitted,
-                    rust.time / ours.time,
-                    ours.peak,
-                    rust.peak
-                );
-            } else {
-                line += &format!(" | | {:.1} | |", ours.peak);
-            }
-            println!("{line}");
         }
     }
+}
+
+/// A line of the table; the counts must be the same on all sides.
+fn line(t: &Timed, engine: &str) -> String {
+    let mut sides = vec![ask("count", engine, t.name), ask("page", engine, t.name)];
+    if t.original {
+        sides.push(ask("original", engine, t.name));
+    }
+    if sides.iter().any(|s| s.counts != sides[0].counts) {
+        let all: Vec<_> = sides.iter().map(|s| &s.counts).collect();
+        println!("{} {engine}: the counts differ: {all:?}", t.name);
+        exit(1);
+    }
+    let emitted: f64 = sides[0].counts[1].parse().unwrap();
+    let column = |of: &dyn Fn(&Said) -> f64| -> String {
+        let mut cells = String::new();
+        for side in 0..3 {
+            match sides.get(side) {
+                Some(s) => cells += &format!(" {:.1} |", of(s)),
+                None => cells += " |",
+            }
+        }
+        cells
+    };
+    let ratio = |side: usize| match sides.get(2) {
+        Some(rust) => format!(" {:.2} |", rust.time / sides[side].time),
+        None => " |".to_string(),
+    };
+    format!(
+        "| {} | {} | {engine} | {emitted} |{}{}{}{}",
+        t.name,
+        t.what,
+        column(&|s| s.time / emitted),
+        ratio(0),
+        ratio(1),
+        column(&|s| s.peak)
+    )
 }
 
 fn main() {
