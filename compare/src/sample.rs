@@ -13,12 +13,23 @@ use std::path::Path;
 const MOST_RECORDS: usize = 25;
 const MOST_TOTAL: u128 = 60;
 
-/// Writes NNN.rules, and one file `answers`: for each file its name, then for each engine its
-/// name and the listing without places.
+/// A listing as the program `replay` prints it: the original knows no places, 0 stands for each.
+fn replayed(listing: &str) -> String {
+    let row = |line: &str| match line.split_once(' ') {
+        Some((letter @ ("P" | "F"), rest)) => format!("{letter} 0 {rest}\n"),
+        _ => format!("{line}\n"),
+    };
+    listing.lines().map(row).collect()
+}
+
+/// Writes what the program `replay` is run on: `data/NNN.rules`, their names in `args`, and in
+/// `stdout` for each file its name, then for each engine its name and the original's listing.
 pub fn write(folder: &Path, many: usize, seed: u64) {
-    fs::create_dir_all(folder).expect("cannot make the folder");
+    let data = folder.join("data");
+    fs::create_dir_all(&data).expect("cannot make the folder");
     let mut random = Random::new(seed);
     let mut seen = BTreeSet::new();
+    let mut names = String::new();
     let mut answers = String::new();
     let mut coverage = Coverage::new();
     while seen.len() < many {
@@ -30,16 +41,18 @@ pub fn write(folder: &Path, many: usize, seed: u64) {
             continue;
         }
         let name = format!("{:03}.rules", seen.len() - 1);
-        fs::write(folder.join(&name), &file).expect("cannot write");
+        fs::write(data.join(&name), &file).expect("cannot write");
+        names += &format!("{name}\n");
         answers += &format!("file {name}\n");
         let list = |engine| rules.list(engine, usize::MAX).expect("no listing");
         let lists = [list(Engine::Structural), list(Engine::Exhaustive)];
         coverage.note(&file, &rules, &lists[0], &lists[1]);
         for (engine, word) in ENGINES {
-            answers += &format!("{word}\n{}", oracle::list(engine, &rules));
+            answers += &format!("{word}\n{}", replayed(&oracle::list(engine, &rules)));
         }
     }
-    fs::write(folder.join("answers"), &answers).expect("cannot write");
+    fs::write(folder.join("args"), &names).expect("cannot write");
+    fs::write(folder.join("stdout"), &answers).expect("cannot write");
     for thing in coverage.missing() {
         println!("not in the sample: {thing}");
     }
