@@ -25,3 +25,4 @@ pub mod Bounds
 pub mod Keys
 pub mod Stepping
 pub mod Prepared
+pub mod Tabled
