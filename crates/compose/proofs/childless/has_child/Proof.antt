@@ -1,5 +1,4 @@
 -- `compose::childless::has_child` meets its contract. The invariant: some child value is in the list exactly where one of the records from i on gives it.
-use mathlib.Core.Bool.{Bool, false, true}
 use mathlib.Core.Logic.{⊎-elim}
 use mathlib.Core.Path.{_∙_, _≡_, ap, refl, sym}
 use Prim.Native.Nat.{_+_, _-_, _≤_}
@@ -42,7 +41,7 @@ looked c =
     ap (λ (x : ℤ). elemZ x (c .before .before .before .before .before .before .before .args .list .now)) (sym (q .ensures) ∙ sym (toZ-ofZ w64 (q .result) (sfits-of (q .ok)))) ∙ sym (c .has-value .ensures)
 
 returns : tie.Need-returns Inv-loop μ-loop
-returns c = 
+returns c =
     let s = c .before .before .before .before .before .before .before .before in
     let l = c .before .before .before .before .before .before .loop in
     let t = c .before .before .before in
@@ -55,7 +54,7 @@ loop-less : tie.Need-loop-less Inv-loop μ-loop
 loop-less c = search needs
 
 loop-again : tie.Need-loop-again Inv-loop μ-loop
-loop-again c = 
+loop-again c =
     let s = c .before .before .before .before .before in
     let l = c .before .before .before .loop in
     let v = s .args .v .0 in
@@ -63,15 +62,15 @@ loop-again c =
     let run = s .args .run .now in
     let p = c .before .is-pair-of in
     let more : childAmong v list (drop (l .i) (recordsOf run)) ≡ childAmong v list (drop (l .i + 1) (recordsOf run)) =
-      rw (add-one (l .i)) (
-        ⊎-elim
-        (λ u. child-other v list run (l .i) (omega arith) (sym (p .ensures) ∙ u .0 .taken) (looked (record { before = record { before = record { before = c .before; if1 = u .0 }; q-at = u .1 }; has-value = u .2 }) ∙ u .3 .left))
-        (λ u. child-past v list run (l .i) (omega arith) (sym (p .ensures) ∙ u .left))
-        (c .if1 .came)) in
+    rw (add-one (l .i)) (
+    ⊎-elim
+    (λ u. child-other v list run (l .i) (omega arith) (sym (p .ensures) ∙ u .0 .taken) (looked (record { before = record { before = record { before = c .before; if1 = u .0 }; q-at = u .1 }; has-value = u .2 }) ∙ u .3 .left))
+    (λ u. child-past v list run (l .i) (omega arith) (sym (p .ensures) ∙ u .left))
+    (c .if1 .came)) in
     (omega arith, sym more ∙ l .inv .1)
 
 returns-2 : tie.Need-returns-2 Inv-loop μ-loop
-returns-2 c = 
+returns-2 c =
     let s = c .before .before .before in
     let l = c .before .loop in
     let run = s .args .run .now in

@@ -1,5 +1,4 @@
 -- `compose::childless::has_value` meets its contract. The invariant: the value is in the list exactly when it is among those from i on.
-
 use mathlib.Core.Bool.{Bool, false, true}
 use mathlib.Core.Path.{_∙_, _≡_, refl, sym}
 use Prim.Native.Nat.{_-_, _≤_}
@@ -18,6 +17,7 @@ use Rattle.lists.proofs.Words.{eq-bits}
 use Rattle.compose.proofs.Tabled.{eqZ-sym}
 use Rattle.compose.proofs.childless.has_value.Statement.{statement}
 use Rattle.compose.proofs.childless.has_value.Tie as tie
+
 -- `compose::childless::has_value` meets its contract. The invariant: the value is in the list exactly when it is among those from i on.
 
 abbrev Inv-loop : tie.InvT-loop
@@ -44,7 +44,7 @@ test c t e =
     eqZ-sym w x ∙ sym (eq-bits x w (sfits-of (c .before .before .if12 .given)) (sfits-of (c .struct-told .given .0 .1))) ∙ e
 
 returns : tie.Need-returns Inv-loop μ-loop
-returns c = 
+returns c =
     let s = c .before .before .before .before .before .before in
     let l = c .before .before .before .before .before .loop in
     sym (sym (l .inv .1) ∙ rw (drop-cons (s .args .list .now) (l .i) (pos 0) (omega arith)) (rw (test (c .before) true (eqb-yes _ _ (c .if1 .taken)))))
@@ -56,13 +56,13 @@ loop-less : tie.Need-loop-less Inv-loop μ-loop
 loop-less c = search needs
 
 loop-again : tie.Need-loop-again Inv-loop μ-loop
-loop-again c = 
+loop-again c =
     let s = c .before .before .before .before .before .before in
     let l = c .before .before .before .before .before .loop in
     (omega arith, rw (add-one (l .i)) (sym (rw (drop-cons (s .args .list .now) (l .i) (pos 0) (omega arith)) (rw (test (c .before) false (eqb-no _ _ (c .if1 .left))))) ∙ l .inv .1))
 
 returns-2 : tie.Need-returns-2 Inv-loop μ-loop
-returns-2 c = 
+returns-2 c =
     let s = c .before .before in
     let l = c .before .loop in
     sym (sym (l .inv .1) ∙ rw (drop-of-length-le (s .args .list .now) {i = l .i} (omega arith)))

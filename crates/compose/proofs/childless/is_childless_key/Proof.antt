@@ -4,7 +4,6 @@ use mathlib.Core.List.{List, map}
 use mathlib.Core.Path.{_∙_, _≡_, ap, sym}
 use borrow.Author.Needs.{needs}
 use borrow.Author.Tests.{not-false, not-true}
-use lib.IntN.{ℤ}
 use Rattle.lists.specs.Lists.{any}
 use Rattle.spec.specs.Record.{entryOf, recordsOf}
 use Rattle.spec.specs.Spec.{Entry}
@@ -35,7 +34,7 @@ has-child-requires : tie.Need-has-child-requires
 has-child-requires c κs = search needs
 
 returns-2 : tie.Need-returns-2
-returns-2 c = 
+returns-2 c =
     let h = c .before .before in
     ap not (c .has-child .ensures) ∙ sym (asked h ∙ ap (λ (b : Bool). b && not (hasChild h)) (not-false (h .has-p .result) (c .before .if1 .left)))
 
