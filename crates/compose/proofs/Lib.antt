@@ -26,3 +26,4 @@ pub mod Keys
 pub mod Stepping
 pub mod Prepared
 pub mod Rowed
+pub mod Tabled
