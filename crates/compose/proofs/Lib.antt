@@ -25,3 +25,5 @@ pub mod Bounds
 pub mod Keys
 pub mod Stepping
 pub mod Prepared
+pub mod Rowed
+pub mod Tabled

@@ -8,3 +8,4 @@ mod ordering;
 pub mod places;
 pub mod plan;
 pub mod steps;
+pub mod tables;

@@ -59,17 +59,17 @@ due-long c = ap length (c .unsettled-of .ensures .0) ∙ sym (c .unsettled-of .e
 array-share-prefix-check-numbers : tie.Need-array-share-prefix-check-numbers
 array-share-prefix-check-numbers c = omega (arith, checks-long (c .before .before .before .before), length-take (c .before .before .before .before .checks-of .result .count) (c .before .before .before .before .checks-of .result .numbers))
 
-slice-aggregate-write-page : tie.Need-slice-aggregate-write-page
-slice-aggregate-write-page c = sym (checks-long (c .before .before .before .before .before))
+slice-aggregate-page-planned : tie.Need-slice-aggregate-page-planned
+slice-aggregate-page-planned c = sym (checks-long (c .before .before .before .before .before))
 
 array-share-prefix-due-numbers : tie.Need-array-share-prefix-due-numbers
 array-share-prefix-due-numbers c = omega (arith, due-long (c .before .before .before), length-take (c .before .before .before .unsettled-of .result .count) (c .before .before .before .unsettled-of .result .numbers))
 
-slice-aggregate-write-page-2 : tie.Need-slice-aggregate-write-page-2
-slice-aggregate-write-page-2 c = sym (due-long (c .before .before .before .before))
+slice-aggregate-page-planned-2 : tie.Need-slice-aggregate-page-planned-2
+slice-aggregate-page-planned-2 c = sym (due-long (c .before .before .before .before))
 
-write-page-requires : tie.Need-write-page-requires
-write-page-requires c κs =
+page-planned-requires : tie.Need-page-planned-requires
+page-planned-requires c κs =
     let s = c .before .before .before .before .before .before .before .before .before .before .before .before .before .before in (
       record {
         fielded = s .pre .0;
@@ -105,9 +105,9 @@ page-of-spec =
     part-unsettled-of-end
     unsettled-of-requires
     array-share-prefix-check-numbers
-    slice-aggregate-write-page
+    slice-aggregate-page-planned
     array-share-prefix-due-numbers
-    slice-aggregate-write-page-2
-    write-page-requires
+    slice-aggregate-page-planned-2
+    page-planned-requires
     same-length
     returns)

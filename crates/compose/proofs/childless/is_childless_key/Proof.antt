@@ -2,21 +2,14 @@
 use mathlib.Core.Bool.{Bool, _&&_, not}
 use mathlib.Core.List.{List, map}
 use mathlib.Core.Path.{_∙_, _≡_, ap, sym}
-use Prim.Native.Nat.{ℕ}
-use native.Mathlib.Nat.{sub-zero}
 use borrow.Author.Needs.{needs}
 use borrow.Author.Tests.{not-false, not-true}
-use lib.Dec.{eqb}
-use lib.IntN.{pos, ℤ}
-use lib.ListN.{getD, length}
 use Rattle.lists.specs.Lists.{any}
 use Rattle.spec.specs.Record.{entryOf, recordsOf}
 use Rattle.spec.specs.Spec.{Entry}
 use Rattle.registry.specs.Check.{isPair}
 use Rattle.registry.proofs.Cross.{any-key}
 use Rattle.compose.specs.Maps.{childlessKey}
-use Rattle.compose.specs.Walk.{least}
-use Rattle.compose.proofs.Keys.{least-none}
 use Rattle.compose.proofs.childless.is_childless_key.Statement.{statement}
 use Rattle.compose.proofs.childless.is_childless_key.Tie as tie
 
@@ -28,11 +21,8 @@ module _ (c : tie.After-has-p) where
   abbrev entries : List Entry
   entries = map entryOf (recordsOf (c .before .before .args .run .now))
 
-  abbrev paired : ℤ → Bool
-  paired w = any (isPair (c .before .before .args .v .0) w) entries
-
   abbrev hasChild : Bool
-  hasChild = any paired (c .before .before .args .list .now)
+  hasChild = any (λ w. any (isPair (c .before .before .args .v .0) w) entries) (c .before .before .args .list .now)
 
   asked : childlessKey entries (c .before .before .args .list .now) (c .before .before .args .v .0) ≡ (c .has-p .result && not hasChild)
   asked = let s = c .before .before in ap (λ (b : Bool). b && not hasChild) (any-key (s .args .v .0) (recordsOf (s .args .run .now)) ∙ sym (c .has-p .ensures))
@@ -40,17 +30,13 @@ module _ (c : tie.After-has-p) where
 returns : tie.Need-returns
 returns c = sym (asked (c .before) ∙ ap (λ (b : Bool). b && not (hasChild (c .before))) (not-true (c .before .has-p .result) (c .if1 .taken)))
 
-next-paired-requires : tie.Need-next-paired-requires
-next-paired-requires c κs = search needs
+has-child-requires : tie.Need-has-child-requires
+has-child-requires c κs = search needs
 
 returns-2 : tie.Need-returns-2
 returns-2 c =
     let h = c .before .before in
-    let s = h .before .before in
-    let list = s .args .list .now in
-    let p = paired h in
-    ap (λ (j : ℕ). eqb j (length list)) (c .next-paired .ensures ∙ ap (least (λ k. p (getD list k (pos 0))) 0) (sub-zero (length list)))
-    ∙ least-none p list ∙ sym (asked h ∙ ap (λ (b : Bool). b && not (hasChild h)) (not-false (h .has-p .result) (c .before .if1 .left)))
+    ap not (c .has-child .ensures) ∙ sym (asked h ∙ ap (λ (b : Bool). b && not (hasChild h)) (not-false (h .has-p .result) (c .before .if1 .left)))
 
 pub is-childless-key-spec : {M : Type 1} → statement M
-is-childless-key-spec = tie.close (tie.spec has-p-requires returns next-paired-requires returns-2)
+is-childless-key-spec = tie.close (tie.spec has-p-requires returns has-child-requires returns-2)
