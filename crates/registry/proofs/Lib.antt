@@ -6,3 +6,4 @@ pub mod Cross
 pub mod Constraints
 pub mod Digits
 pub mod Scale
+pub mod Ordered
