@@ -7,3 +7,4 @@ pub mod Constraints
 pub mod Digits
 pub mod Scale
 pub mod Ordered
+pub mod Looked
