@@ -8,3 +8,4 @@ pub mod Digits
 pub mod Scale
 pub mod Ordered
 pub mod Looked
+pub mod Halves

@@ -1,23 +1,23 @@
 -- What looking up in an index gives: k is the first place that is not below (v, w).
-use mathlib.Core.Bool.{Bool, _&&_, _||_, cond, false, false≢true, not, true, true≢false}
+use mathlib.Core.Bool.{Bool, _&&_, _||_, cond, false, not, true, true≢false}
 use mathlib.Core.List.{List, [], _∷_, map}
 use mathlib.Core.Logic.{_⊎_, inl, inr}
 use mathlib.Core.Path.{_∙_, _≡_, ap, ap₂, refl, subst, sym}
-use Prim.Native.Nat.{_*_, _+_, _-_, _/_, _<_, _^_, _≤_, suc, zero, ℕ}
+use Prim.Native.Nat.{_*_, _-_, _<_, _^_, _≤_, suc, zero, ℕ}
 use native.Mathlib.Omega.{arith}
 use lib.Dec.{eqb, ltb}
 use lib.IntN.{negsuc, pos, ℤ}
 use lib.ListN.{drop, getD, length, take}
 use lib.Signed.{ltZ}
-use Rattle.lists.specs.Integers.{elemZ, eqZ, littleEndian, signed64}
-use Rattle.lists.specs.Lists.{any}
 use Rattle.lists.proofs.Integers.{eqZ-eq, eqZ-refl}
 use Rattle.lists.proofs.Lists.{any-map}
 use Rattle.lists.proofs.Tests.{and-join, bool-ext, ltb-no, no-ge, or-true, yes-lt}
+use Rattle.lists.specs.Integers.{elemZ, eqZ, littleEndian, signed64}
+use Rattle.lists.specs.Lists.{any}
 use Rattle.spec.specs.Code.{psOf}
 use Rattle.spec.specs.Record.{Record, entryOf, recordAt, recordOf, recordsOf}
 use Rattle.registry.specs.Check.{crossAllows, isPair}
-use Rattle.registry.specs.Index.{Indexed, isBelow, placed}
+use Rattle.registry.specs.Index.{Indexed, placed}
 use Rattle.registry.proofs.Cross.{any-key, any-pair, pairs}
 use Rattle.registry.proofs.Ordered.{Bracket, ltZ-irrefl, under, under-antisym, under-asym, under-between, under-none}
 
@@ -86,10 +86,10 @@ module _ (run places : List ℕ) (x : Indexed run places) (v w : ℤ) (k : ℕ) 
     where
       go : eqZ v (at m .p) ≡ true → (t : Bool) → ltb k m ≡ t → ⊥
       go e true t =
-        let s : at m .p ≡ v = sym (eqZ-eq v (at m .p) e) in
-        let r = subst (λ (z : ℤ). under z (at m .q) (at k .p) (at k .q) ≡ false) s (x .sorted .rising k m (yes-lt k m t) b) in
-        let i : at k .p ≡ v = under-between (at k .p) (at k .q) v w (at m .q) (h .rest k (omega arith) (n .0)) r in
-        true≢false (sym (ap (eqZ v) i ∙ eqZ-refl v) ∙ n .1)
+          let s : at m .p ≡ v = sym (eqZ-eq v (at m .p) e) in
+          let r = subst (λ (z : ℤ). under z (at m .q) (at k .p) (at k .q) ≡ false) s (x .sorted .rising k m (yes-lt k m t) b) in
+          let i : at k .p ≡ v = under-between (at k .p) (at k .q) v w (at m .q) (h .rest k (omega arith) (n .0)) r in
+          true≢false (sym (ap (eqZ v) i ∙ eqZ-refl v) ∙ n .1)
       go e false t = let g = no-ge k m t in let i : k ≡ m = omega arith in true≢false (sym e ∙ subst (λ (z : ℕ). eqZ v (at z .p) ≡ false) i (n .1))
 
   -- ---- the value as a p
@@ -130,10 +130,11 @@ module _ (run places : List ℕ) (x : Indexed run places) (v w : ℤ) (k : ℕ) 
       where
         later : (m : ℕ) → m < length places → k ≤ m → eqZ v (at m .p) ≡ true → eqZ w (at m .q) ≡ true → (t : Bool) → ltb k m ≡ t → ⊥
         later m g n a b true t =
-          let r = ap₂ (λ (y z : ℤ). under y z (at k .p) (at k .q)) (eqZ-eq v (at m .p) a) (eqZ-eq w (at m .q) b) ∙ x .sorted .rising k m (yes-lt k m t) g in
-          let i : at k .q ≡ w = under-antisym (at k .p) (at k .q) v w (h .rest k (omega arith) l) r in
-          true≢false (sym (ap (λ (z : ℤ). eqZ z w) i ∙ eqZ-refl w) ∙ f)
+            let r = ap₂ (λ (y z : ℤ). under y z (at k .p) (at k .q)) (eqZ-eq v (at m .p) a) (eqZ-eq w (at m .q) b) ∙ x .sorted .rising k m (yes-lt k m t) g in
+            let i : at k .q ≡ w = under-antisym (at k .p) (at k .q) v w (h .rest k (omega arith) l) r in
+            true≢false (sym (ap (λ (z : ℤ). eqZ z w) i ∙ eqZ-refl w) ∙ f)
         later m g n a b false t = let c = no-ge k m t in let i : m ≡ k = omega arith in true≢false (sym (eqZ-sym (at m .q) w ∙ b) ∙ subst (λ (z : ℕ). eqZ (at z .q) w ≡ false) (sym i) f)
+
         go : (m : ℕ) → m < length places → (t : Bool) → ltb m k ≡ t → pairs v w (at m) ≡ false
         go m g true t = pair-before m (yes-lt m k t)
         go m g false t = pairs-no v w (at m) (λ a b. later m g (no-ge m k t) a b (ltb k m) refl)
@@ -154,19 +155,23 @@ module _ (run places : List ℕ) (x : Indexed run places) (v w : ℤ) (k : ℕ) 
       where
         here : k - 1 < length places
         here = omega (arith, h .high-le)
+
         no-pair : (m : ℕ) → m < length places → (t : Bool) → ltb m k ≡ t → pairs v w (at m) ≡ false
         no-pair m l true t = pair-before m (yes-lt m k t)
         no-pair m l false t = pairs-no v w (at m) (λ a b. true≢false (sym a ∙ past g m (no-ge m k t) l))
+
         earlier : (m : ℕ) → m < length places → m < k → eqZ v (at (k - 1) .p) ≡ false → eqZ v (at m .p) ≡ true → (t : Bool) → ltb m (k - 1) ≡ t → ⊥
         earlier m l n f a true t =
-          let r = ap (λ (z : ℤ). under (at (k - 1) .p) (at (k - 1) .q) z (at m .q)) (eqZ-eq v (at m .p) a) ∙ x .sorted .rising m (k - 1) (yes-lt m (k - 1) t) here in
-          let u = under-asym (at (k - 1) .p) (at (k - 1) .q) v w (h .below (k - 1) (omega arith)) in
-          let i : at (k - 1) .p ≡ v = under-between (at (k - 1) .p) (at (k - 1) .q) v (at m .q) w r u in
-          true≢false (sym (ap (eqZ v) i ∙ eqZ-refl v) ∙ f)
+            let r = ap (λ (z : ℤ). under (at (k - 1) .p) (at (k - 1) .q) z (at m .q)) (eqZ-eq v (at m .p) a) ∙ x .sorted .rising m (k - 1) (yes-lt m (k - 1) t) here in
+            let u = under-asym (at (k - 1) .p) (at (k - 1) .q) v w (h .below (k - 1) (omega arith)) in
+            let i : at (k - 1) .p ≡ v = under-between (at (k - 1) .p) (at (k - 1) .q) v (at m .q) w r u in
+            true≢false (sym (ap (eqZ v) i ∙ eqZ-refl v) ∙ f)
         earlier m l n f a false t = let c = no-ge m (k - 1) t in let i : m ≡ k - 1 = omega arith in true≢false (sym a ∙ subst (λ (z : ℕ). eqZ v (at z .p) ≡ false) (sym i) f)
+
         no-key : eqZ v (at (k - 1) .p) ≡ false → (m : ℕ) → m < length places → (t : Bool) → ltb m k ≡ t → eqZ v (at m .p) ≡ false
         no-key f m l true t = refuted (eqZ v (at m .p)) (λ a. earlier m l (yes-lt m k t) f a (ltb m (k - 1)) refl)
         no-key f m l false t = past g m (no-ge m k t) l
+
         go : (t : Bool) → eqZ v (at (k - 1) .p) ≡ t → not t ≡ (not (any isIt (recordsOf run)) || any (pairs v w) (recordsOf run))
         go true f = sym (ap₂ (λ (a b : Bool). not a || b) (seen isIt (k - 1) here f) (unseen (pairs v w) (λ m l. no-pair m l (ltb m k) refl)))
         go false f = sym (ap (λ (a : Bool). not a || any (pairs v w) (recordsOf run)) (unseen isIt (λ m l. no-key f m l (ltb m k) refl)))
