@@ -70,7 +70,7 @@ cast-numbers : tie.Need-cast-numbers Inv-loop μ-loop
 cast-numbers c =
     let s = c .before .before .before .before .before .before .before .before in
     let l = c .before .before .before .before .loop in
-    byte (s .args .heads .now) (l .k) (l .inv .0) (omega arith) ?
+    byte (s .args .heads .now) (l .k) (l .inv .0) (omega arith) (s .pre .2)
 
 array-write-numbers : tie.Need-array-write-numbers Inv-loop μ-loop
 array-write-numbers c = room c
