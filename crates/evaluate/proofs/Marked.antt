@@ -16,6 +16,7 @@ use Rattle.lists.proofs.Lists.{any-append}
 use Rattle.lists.proofs.Numbers.{upto-add}
 use Rattle.lists.proofs.Tests.{no-ge, or-false, or-true, yes-lt}
 use Rattle.spec.specs.Record.{recordsOf}
+use Rattle.spec.proofs.Fields.{length-records}
 use Rattle.registry.specs.Index.{Indexed, IndexedAt, IndexIn}
 use Rattle.registry.proofs.Alike.{indexed-same}
 use Rattle.evaluate.specs.Code.{Unindexed}
@@ -38,6 +39,10 @@ drop-entry : (xs ys : List ℕ) (n j : ℕ) → n ≤ j → drop n xs ≡ drop n
 drop-entry xs ys n j h q =
     let e : n + (j - n) ≡ j = omega arith in
     ap (λ (k : ℕ). getD xs k 0) (sym e) ∙ sym (getD-drop n xs (j - n) 0) ∙ ap (λ (l : List ℕ). getD l (j - n) 0) q ∙ getD-drop n ys (j - n) 0 ∙ ap (λ (k : ℕ). getD ys k 0) e
+
+-- How many records a part of a file has.
+pub part-size : (file run : List ℕ) (from end : ℕ) → end ≤ length file / 32 → recordsOf run ≡ take (end - from) (drop from (recordsOf file)) → length run / 32 ≡ end - from
+part-size file run from end h e = sym (length-records run) ∙ ap length e ∙ mid-len from end (recordsOf file) (subst (λ (n : ℕ). end ≤ n) (sym (length-records file)) h)
 
 -- ---- whether one of the numbers passes a test
 module _ (p : ℕ → Bool) where

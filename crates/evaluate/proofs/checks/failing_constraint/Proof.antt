@@ -1,74 +1,97 @@
+-- `evaluate::checks::failing_constraint` meets its contract. The invariant: the first of all is the first of those from j on.
+use mathlib.Core.Path.{_∙_, _≡_, refl, sym}
+use Prim.Native.Nat.{_-_, _<_, _≤_, suc}
+use native.Mathlib.Numerals.{add-one}
+use native.Mathlib.Omega.{arith}
+use borrow.Author.Needs.{needs}
+use borrow.Author.Tests.{not-false, not-true}
+use lib.ListN.{drop, getD, length}
+use Rattle.evaluate.specs.Code.{firstChosen, holdsAt}
+use Rattle.evaluate.proofs.Chosen.{chosen-end, chosen-more, chosen-stop}
 use Rattle.evaluate.proofs.checks.failing_constraint.Statement.{statement}
 use Rattle.evaluate.proofs.checks.failing_constraint.Tie as tie
-use Rattle.evaluate.proofs.checks.failing_constraint.Reads as reads
-use Rattle.evaluate.proofs.checks.failing_constraint.Lts as lts
-use Rattle.registry.proofs.check.check.Reads as check-reads
 
 abbrev Inv-loop : tie.InvT-loop
-Inv-loop file heads chosen index row j₀ j = ?
+Inv-loop file heads chosen index row j₀ j = (j ≤ length chosen) × (firstChosen (holdsAt file heads row) chosen ≡ firstChosen (holdsAt file heads row) (drop j chosen))
 
 abbrev μ-loop : tie.MeasureT-loop
-μ-loop file heads chosen index row j₀ j = ?
+μ-loop file heads chosen index row j₀ j = length chosen - j
 
--- src/checks.rt:50:5
+-- the number chosen is of a head
+number : (c : tie.In-loop Inv-loop μ-loop)
+    → suc (getD (c .before .before .before .before .before .before .args .chosen .now) (c .before .loop .j) 0) < length (c .before .before .before .before .before .before .args .heads .now)
+number c = c .before .before .before .before .before .before .pre .0 (c .before .loop .j) (omega arith) .1
+
+-- the answer of its check
+tested : (c : tie.After-check Inv-loop μ-loop)
+    → holdsAt (c .before .before .before .before .before .before .before .before .before .before .args .file .now) (c .before .before .before .before .before .before .before .before .before .before .args .heads .now) (c .before .before .before .before .before .before .before .before .before .before .args .row .now) (getD (c .before .before .before .before .before .before .before .before .before .before .args .chosen .now) (c .before .before .before .before .before .loop .j) 0)
+    ≡ c .check .result
+tested c =
+    let s = c .before .before .before .before .before .before .before .before .before .before in
+    sym (rw (add-one (getD (s .args .chosen .now) (c .before .before .before .before .before .loop .j) 0)) at (c .check .ensures))
+
 loop-holds : tie.Need-loop-holds Inv-loop μ-loop
-loop-holds c = ?
+loop-holds c = (omega arith, refl)
 
--- src/checks.rt:51:17
 shared-slice-read-k : tie.Need-shared-slice-read-k Inv-loop μ-loop
-shared-slice-read-k c = ?
+shared-slice-read-k c = search needs
 
--- src/checks.rt:51:17
 cast-k : tie.Need-cast-k Inv-loop μ-loop
-cast-k c = ?
+cast-k c = let k = number (c .before) in omega arith
 
--- src/checks.rt:52:25
 mul-check : tie.Need-mul-check Inv-loop μ-loop
-mul-check c = ?
+mul-check c = let k = number (c .before) in omega arith
 
--- src/checks.rt:52:25
 shared-slice-read-check : tie.Need-shared-slice-read-check Inv-loop μ-loop
-shared-slice-read-check c = ?
+shared-slice-read-check c = let k = number (c .before .before) in omega arith
 
--- src/checks.rt:52:41
 add-check : tie.Need-add-check Inv-loop μ-loop
-add-check c = ?
+add-check c = let k = number (c .before .before) in omega arith
 
--- src/checks.rt:52:35
 mul-check-2 : tie.Need-mul-check-2 Inv-loop μ-loop
-mul-check-2 c = ?
+mul-check-2 c = let k = number (c .before .before) in omega arith
 
--- src/checks.rt:52:35
 shared-slice-read-check-2 : tie.Need-shared-slice-read-check-2 Inv-loop μ-loop
-shared-slice-read-check-2 c = ?
+shared-slice-read-check-2 c = let k = number (c .before .before .before) in omega arith
 
--- src/checks.rt:52:13
 check-requires : tie.Need-check-requires Inv-loop μ-loop
-check-requires c κs = ?
+check-requires c κs =
+    let s = c .before .before .before .before .before .before .before .before .before in
+    let l = c .before .before .before .before .loop in
+    let h = s .pre .0 (l .j) (omega arith) .0 in
+    let i = h .inside in
+    let short = s .pre .1 in
+    rw (add-one (getD (s .args .chosen .now) (l .j) 0)) (h, omega arith, s .pre .2)
 
--- src/checks.rt:53:20
 add-result : tie.Need-add-result Inv-loop μ-loop
-add-result c = ?
+add-result c = let k = number (c .before .before .before .before .before) in omega arith
 
--- src/checks.rt:53:13
 returns : tie.Need-returns Inv-loop μ-loop
-returns c = ?
+returns c =
+    let s = c .before .before .before .before .before .before .before .before .before .before .before in
+    let l = c .before .before .before .before .before .before .loop in
+    let k = getD (s .args .chosen .now) (l .j) 0 in
+    let p = holdsAt (s .args .file .now) (s .args .heads .now) (s .args .row .now) in
+    sym (l .inv .1 ∙ chosen-stop p (s .args .chosen .now) (l .j) (omega arith) (tested (c .before) ∙ not-true _ (c .if1 .taken)) ∙ sym (add-one k))
 
--- src/checks.rt:55:9
 add-j : tie.Need-add-j Inv-loop μ-loop
-add-j c = ?
+add-j c = search needs
 
--- src/checks.rt:50:5
 loop-less : tie.Need-loop-less Inv-loop μ-loop
-loop-less c = ?
+loop-less c = search needs
 
--- src/checks.rt:50:5
 loop-again : tie.Need-loop-again Inv-loop μ-loop
-loop-again c = ?
+loop-again c =
+    let s = c .before .before .before .before .before .before .before .before .before .before .before in
+    let l = c .before .before .before .before .before .before .loop in
+    let p = holdsAt (s .args .file .now) (s .args .heads .now) (s .args .row .now) in
+    (omega arith, l .inv .1 ∙ chosen-more p (s .args .chosen .now) (l .j) (omega arith) (tested (c .before) ∙ not-false _ (c .if1 .left)))
 
--- src/checks.rt:39:1
 returns-2 : tie.Need-returns-2 Inv-loop μ-loop
-returns-2 c = ?
+returns-2 c =
+    let s = c .before .before .before .before .before .before in
+    let l = c .before .loop in
+    sym (l .inv .1 ∙ chosen-end (holdsAt (s .args .file .now) (s .args .heads .now) (s .args .row .now)) (s .args .chosen .now) (l .j) (omega arith))
 
 pub failing-constraint-spec : {M : Type 1} → statement M
 failing-constraint-spec =
