@@ -1,6 +1,6 @@
 -- `evaluate::indexing::index_heads` meets its contract. The invariant: nothing is indexed from the head before k on.
 use mathlib.Core.Logic.{⊎-elim}
-use mathlib.Core.Path.{_∙_, _≡_, refl, subst, sym}
+use mathlib.Core.Path.{_∙_, _≡_, refl, subst}
 use Prim.Native.Nat.{_+_, _-_, _≤_, suc, ℕ}
 use native.Mathlib.Omega.{arith}
 use borrow.Author.Needs.{needs}
@@ -74,10 +74,10 @@ loop-again c =
     let l = c .before .before .before .before .before .loop in
     let h = here (c .before .before .before .before) in
     let one = l .inv .0 in
-    let e : l .k ≡ l .k + 1 - 1 = omega arith in
+    let e : l .k + 1 - 1 ≡ l .k = omega arith in
     ⊎-elim
-    (λ u. ?)
-    (λ u. ?)
+    (λ u. rw (u .8, u .9, e) (omega arith, u .3 .kept .1 .1 .1 .0 ∙ l .inv .1, u .3 .kept .1 .1 .1 .1 .0 ∙ l .inv .2, u .3 .ensures .0, u .3 .ensures .1))
+    (λ u. rw (u .1, u .2, e) (omega arith, l .inv .1, l .inv .2, l .inv .3, let b = h .before in unindexed-up (l .index) _ _ (omega arith) (l .inv .4)))
     (c .if1 .came)
 
 same-length : tie.Need-same-length Inv-loop μ-loop
