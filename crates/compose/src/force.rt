@@ -73,7 +73,7 @@ pub struct Chosen {
 
 // The list, and behind it the numbers of the heads of kind a or b.
 fn with_kinds(file: &[u8], heads: &[usize], a: u8, b: u8, list: Chosen) -> Chosen
-    requires { ⌜ HeadsIn (now file) (now heads) 32 × (list .count + countIf (codeIs a b) (groupsIn (now file) (now heads)) ≤ 256) ⌝ }
+    requires { ⌜ HeadsIn (now file) (now heads) 32 × (list .count + countIf (codeIs a b) (groupsIn (now file) (now heads)) ≤ 256) × (length (now heads) ≤ 257) ⌝ }
     ensures count { λ r. ⌜ r .count ≡ list .count + countIf (codeIs a b) (groupsIn (now (file .entry)) (now (heads .entry))) ⌝ }
     ensures chosen { λ r. ⌜ chosenIn (now (file .entry)) (now (heads .entry)) (take (r .count) (r .numbers)) ≡ chosenIn (now (file .entry)) (now (heads .entry)) (take (list .count) (list .numbers)) ++ concatMap constraintOf (filter (codeIs a b) (groupsIn (now (file .entry)) (now (heads .entry)))) ⌝ }
     ensures kept { λ r. ⌜ take (list .count) (r .numbers) ≡ take (list .count) (list .numbers) ⌝ }
