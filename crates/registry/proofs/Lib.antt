@@ -7,3 +7,6 @@ pub mod Constraints
 pub mod Digits
 pub mod Scale
 pub mod Ordered
+pub mod Looked
+pub mod Halves
+pub mod Alike
