@@ -114,7 +114,7 @@ module _ (file index places run : List ℕ) (head end : ℕ) (before : head < en
           let w = indexed .sorted .inside (h - suc head) l in
           let q : suc head + (h - suc head) ≡ h = omega arith in
           let r : getD places (h - suc head) 0 ≡ getD marked h 0
-              = ap (λ (ps : List ℕ). getD ps (h - suc head) 0) (sym part-marked) ∙ getD-take (end - suc head) (drop (suc head) marked) (h - suc head) 0 k ∙ getD-drop (suc head) marked (h - suc head) 0 ∙ ap (λ (j : ℕ). getD marked j 0) q
+          = ap (λ (ps : List ℕ). getD ps (h - suc head) 0) (sym part-marked) ∙ getD-take (end - suc head) (drop (suc head) marked) (h - suc head) 0 k ∙ getD-drop (suc head) marked (h - suc head) 0 ∙ ap (λ (j : ℕ). getD marked j 0) q
           in
           omega (arith, size, r, w, few, long, inside)
 
@@ -153,7 +153,7 @@ module _ (file index places run : List ℕ) (head end : ℕ) (before : head < en
                   before = i .before;
                   inside = i .inside;
                   long = subst (λ (n : ℕ). e ≤ n) (sym marked-long) (i .long);
-                  indexed = λ r q. subst (Indexed r) (part-same index marked (suc h) e b (sym (take-marked e l))) (i .indexed r q)
+                  indexed = λ r q. subst (Indexed r) (part-same index marked (suc h) e b (sym (take-marked e l))) (i .indexed r q);
                 }
 
             new : IndexedAt file marked head end
@@ -162,7 +162,7 @@ module _ (file index places run : List ℕ) (head end : ℕ) (before : head < en
                   before = before;
                   inside = inside;
                   long = (let l : end ≤ length index = omega arith in subst (λ (n : ℕ). end ≤ n) (sym marked-long) l);
-                  indexed = λ r q. subst (Indexed r) (sym part-marked) (indexed-same run r (records ∙ sym q) places indexed)
+                  indexed = λ r q. subst (Indexed r) (sym part-marked) (indexed-same run r (records ∙ sym q) places indexed);
                 }
 
             go : (getD index h 0 ≡ 4096 + e) ⊎ ((h ≡ head) × (e ≡ end)) → IndexedAt file marked h e

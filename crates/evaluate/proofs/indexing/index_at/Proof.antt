@@ -98,7 +98,7 @@ returns c =
     let many : length places ≡ end - suc head = r .kept .1 .0 ∙ room t index (omega arith) ∙ size t in
     subst (λ (k : ℕ). IndexIn file (set (putMid k (end - k) index places) head (4096 + end)) × Unindexed (set (putMid k (end - k) index places) head (4096 + end)) end) (sym (add-one head)) (
       index-marked file index places (run t) head end (s t .pre .0) inside long (s t .pre .3) many (r .ensures) (size t) (s t .pre .6) (s t .pre .5) (run-read t),
-      unindexed-marked file index places (run t) head end (s t .pre .0) inside long (s t .pre .3) many (r .ensures) (size t) (s t .pre .6)
+      unindexed-marked file index places (run t) head end (s t .pre .0) inside long (s t .pre .3) many (r .ensures) (size t) (s t .pre .6),
     )
 
 pub index-at-spec : {M : Type 1} → statement M
