@@ -9,3 +9,4 @@ pub mod Scale
 pub mod Ordered
 pub mod Looked
 pub mod Halves
+pub mod Alike

@@ -65,7 +65,6 @@ sub-numbers c = c .before .before .before .before .loop .inv .0
 byte : (heads : List ℕ) (k : ℕ) → 1 ≤ k → k < length heads → length heads ≤ 257 → Fits w8 (k - 1)
 byte heads k some more few = record { fits = omega arith }
 
--- NOT PROVABLE as the contract stands: it does not bound the number of heads. The hole is what is missing: length heads ≤ 257.
 cast-numbers : tie.Need-cast-numbers Inv-loop μ-loop
 cast-numbers c =
     let s = c .before .before .before .before .before .before .before .before in
