@@ -288,17 +288,17 @@ add-count c = let l = c .before .before .before .before .before .before .before 
 array-borrow-prefix-tuple : tie.Need-array-borrow-prefix-tuple Inv-loop μ-loop
 array-borrow-prefix-tuple c = let f = c .before .before .before .before .before .before .before .before .before .before .before .before .before .before .before .before .before .before .before .before .before .before .before .before .before .before .before .before .before .before .before .pre .0 .planned .plan-in .places .few in omega (arith, c .before .before .before .before .before .before .before .before .before .before .loop .inv .1 .begun .long)
 
-slice-aggregate-advance : tie.Need-slice-aggregate-advance Inv-loop μ-loop
-slice-aggregate-advance c = let s = c .before .before .before .before .before .before .before .before .before .before .before .before .before .before .before .before .before .before .before .before .before .before .before .before .before .before .before .before .before .before .before .before in let l = c .before .before .before .before .before .before .before .before .before .before .before .loop in sym (length-take-le (length (s .args .order .now)) (l .tuple) (omega (arith, l .inv .1 .begun .long, s .pre .0 .planned .plan-in .places .few)))
+slice-aggregate-step : tie.Need-slice-aggregate-step Inv-loop μ-loop
+slice-aggregate-step c = let s = c .before .before .before .before .before .before .before .before .before .before .before .before .before .before .before .before .before .before .before .before .before .before .before .before .before .before .before .before .before .before .before .before in let l = c .before .before .before .before .before .before .before .before .before .before .before .loop in sym (length-take-le (length (s .args .order .now)) (l .tuple) (omega (arith, l .inv .1 .begun .long, s .pre .0 .planned .plan-in .places .few)))
 
 array-borrow-prefix-raw-2 : tie.Need-array-borrow-prefix-raw-2 Inv-loop μ-loop
 array-borrow-prefix-raw-2 c = let f = c .before .before .before .before .before .before .before .before .before .before .before .before .before .before .before .before .before .before .before .before .before .before .before .before .before .before .before .before .before .before .before .before .pre .0 .planned .plan-in .places .few in omega (arith, c .before .before .before .before .before .before .before .before .before .before .before .loop .inv .1 .wide)
 
-slice-aggregate-advance-2 : tie.Need-slice-aggregate-advance-2 Inv-loop μ-loop
-slice-aggregate-advance-2 c = let s = c .before .before .before .before .before .before .before .before .before .before .before .before .before .before .before .before .before .before .before .before .before .before .before .before .before .before .before .before .before .before .before .before .before in let l = c .before .before .before .before .before .before .before .before .before .before .before .before .loop in sym (length-take-le (length (s .args .order .now)) (l .raw) (omega (arith, l .inv .1 .wide, s .pre .0 .planned .plan-in .places .few)))
+slice-aggregate-step-2 : tie.Need-slice-aggregate-step-2 Inv-loop μ-loop
+slice-aggregate-step-2 c = let s = c .before .before .before .before .before .before .before .before .before .before .before .before .before .before .before .before .before .before .before .before .before .before .before .before .before .before .before .before .before .before .before .before .before in let l = c .before .before .before .before .before .before .before .before .before .before .before .before .loop in sym (length-take-le (length (s .args .order .now)) (l .raw) (omega (arith, l .inv .1 .wide, s .pre .0 .planned .plan-in .places .few)))
 
-advance-requires : tie.Need-advance-requires Inv-loop μ-loop
-advance-requires c κs = let s = c .before .before .before .before .before .before .before .before .before .before .before .before .before .before .before .before .before .before .before .before .before .before .before .before .before .before .before .before .before .before .before .before .before in (s .pre .0 .planned .plan-in, s .pre .2, c .before .before .before .before .before .before .before .before .before .before .before .before .loop .inv .1 .stands)
+step-requires : tie.Need-step-requires Inv-loop μ-loop
+step-requires c κs = let s = c .before .before .before .before .before .before .before .before .before .before .before .before .before .before .before .before .before .before .before .before .before .before .before .before .before .before .before .before .before .before .before .before .before in (s .pre .0 .planned .plan-in, s .pre .2, c .before .before .before .before .before .before .before .before .before .before .before .before .loop .inv .1 .stands, s .pre .0 .fielded)
 
 loop-less : tie.Need-loop-less Inv-loop μ-loop
 loop-less c = let a = c .before .before .before .before .before .before .before .before .before .before .before .before .before .before .before in let m = next-fewer (a .loop .count) _ _ _ (next (c .before .before .before .before .before .before .before .before .before .before .before .before .before .before)) in omega arith
@@ -310,7 +310,7 @@ loop-again c =
     let l = a .loop in
     let e = c .before .before .before .before .before .before .before .before .before .before .before .before .before .before .before .before .before .before .before .before .before .before .before .before in
     let v = c .before .before .before .before .before .before .write-verdict in
-    let d = c .before .before .advance in
+    let d = c .before .before .step in
     let i = room (c .before .before .before .before .before .before .before .before .before .before .before .before .before) in
     let part = v .last .1 .1 .1 .1 .1 .1 .1 .1 .1 .0 in
     let new : part ≡ wordsIn (s .args .file .now) (s .args .heads .now) (length (s .args .order .now)) (s .args .c) (plan s .lists) (numbers e) (take (length (s .args .order .now)) (l .tuple))
@@ -378,10 +378,10 @@ write-page-spec =
     write-verdict-requires
     add-count
     array-borrow-prefix-tuple
-    slice-aggregate-advance
+    slice-aggregate-step
     array-borrow-prefix-raw-2
-    slice-aggregate-advance-2
-    advance-requires
+    slice-aggregate-step-2
+    step-requires
     loop-less
     loop-again
     written-requires-2
