@@ -27,3 +27,4 @@ pub mod Stepping
 pub mod Prepared
 pub mod Rowed
 pub mod Tabled
+pub mod Usual

@@ -48,7 +48,7 @@ fn force_by(file: &[u8], head: usize, end: usize, row: &mut [i64]) -> bool
 }
 
 // Forces a row by the enable records chosen, in their order; whether any wrote.
-pub fn force(file: &[u8], heads: &[usize], chosen: &[usize], row: &mut [i64]) -> bool
+pub fn force(file: &[u8], heads: &[usize], chosen: &[u8], row: &mut [i64]) -> bool
     requires { ⌜ EnablesIn (now file) (now heads) (now chosen) (length (now row)) ⌝ }
     ensures wrote { λ r. ⌜ r ≡ isForced (chosenIn (now (file .entry)) (now (heads .entry)) (now (chosen .entry))) (now (row .entry)) ⌝ }
     ensures row { λ r. ⌜ now (row .exit) ≡ foldl forceBy (now (row .entry)) (chosenIn (now (file .entry)) (now (heads .entry)) (now (chosen .entry))) ⌝ }
@@ -56,7 +56,7 @@ pub fn force(file: &[u8], heads: &[usize], chosen: &[usize], row: &mut [i64]) ->
     let mut wrote = false;
     let mut j = 0;
     while j < chosen.len() {
-        let k = chosen[j];
+        let k = chosen[j] as usize;
         if force_by(file, heads[k], heads[k + 1], row) {
             wrote = true;
         }
@@ -68,12 +68,12 @@ pub fn force(file: &[u8], heads: &[usize], chosen: &[usize], row: &mut [i64]) ->
 // Numbers of constraints.
 pub struct Chosen {
     pub count: usize,
-    pub numbers: [usize; 256],
+    pub numbers: [u8; 256],
 }
 
 // The list, and behind it the numbers of the heads of kind a or b.
 fn with_kinds(file: &[u8], heads: &[usize], a: u8, b: u8, list: Chosen) -> Chosen
-    requires { ⌜ HeadsIn (now file) (now heads) 32 × (list .count + countIf (codeIs a b) (groupsIn (now file) (now heads)) ≤ 256) ⌝ }
+    requires { ⌜ HeadsIn (now file) (now heads) 32 × (list .count + countIf (codeIs a b) (groupsIn (now file) (now heads)) ≤ 256) × (length (now heads) ≤ 257) ⌝ }
     ensures count { λ r. ⌜ r .count ≡ list .count + countIf (codeIs a b) (groupsIn (now (file .entry)) (now (heads .entry))) ⌝ }
     ensures chosen { λ r. ⌜ chosenIn (now (file .entry)) (now (heads .entry)) (take (r .count) (r .numbers)) ≡ chosenIn (now (file .entry)) (now (heads .entry)) (take (list .count) (list .numbers)) ++ concatMap constraintOf (filter (codeIs a b) (groupsIn (now (file .entry)) (now (heads .entry)))) ⌝ }
     ensures kept { λ r. ⌜ take (list .count) (r .numbers) ≡ take (list .count) (list .numbers) ⌝ }
@@ -85,7 +85,7 @@ fn with_kinds(file: &[u8], heads: &[usize], a: u8, b: u8, list: Chosen) -> Chose
     while k < heads.len() {
         let code = code_at(file, heads[k - 1]);
         if (code == a) | (code == b) {
-            numbers[count] = k - 1;
+            numbers[count] = (k - 1) as u8;
             count += 1;
         }
         k += 1;
@@ -101,7 +101,7 @@ pub fn enables_of(engine: Engine, file: &[u8], heads: &[usize]) -> Chosen
 {
     let none = Chosen {
         count: 0,
-        numbers: [0usize; 256],
+        numbers: [0u8; 256],
     };
     match engine {
         Engine::Structural => with_kinds(file, heads, 20, 22, none),

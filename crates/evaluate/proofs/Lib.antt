@@ -3,3 +3,4 @@ pub mod Chosen
 pub mod Rows
 pub mod Places
 pub mod Due
+pub mod Marked

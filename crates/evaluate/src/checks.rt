@@ -11,6 +11,7 @@ ghost use mathlib.Core.List.{_++_, map};
 ghost use Prim.Native.Nat.{suc, _+_, _/_, _≤_, _<_};
 ghost use lib.ListN.{length};
 ghost use Rattle.lists.specs.Lists.{firstFalse};
+ghost use Rattle.registry.specs.Index.{IndexIn};
 ghost use Rattle.registry.specs.Code.{asProjection, groupIn, ProjectorIn, projectOf, RowIn};
 ghost use Rattle.compose.specs.Code.{fieldsIn, FieldsIn};
 ghost use Rattle.evaluate.specs.Verdict.{fieldChecks, ifPassed};
@@ -38,16 +39,17 @@ pub fn failing_field(file: &[u8], fields: &[usize], row: &[i64]) -> usize
 pub(crate) fn failing_constraint(
     file: &[u8],
     heads: &[usize],
-    chosen: &[usize],
+    chosen: &[u8],
+    index: &[usize],
     row: &[i64],
 ) -> usize
-    requires { ⌜ ChecksIn (now file) (now heads) (now chosen) (length (now row)) ⌝ }
+    requires { ⌜ ChecksIn (now file) (now heads) (now chosen) (length (now row)) × (length (now file) ≤ 65536) × IndexIn (now file) (now index) ⌝ }
     ensures { λ r. ⌜ r ≡ firstChosen (holdsAt (now (file .entry)) (now (heads .entry)) (now (row .entry))) (now (chosen .entry)) ⌝ }
 {
     let mut j = 0;
     while j < chosen.len() {
-        let k = chosen[j];
-        if !check(file, heads[k], heads[k + 1], row) {
+        let k = chosen[j] as usize;
+        if !check(file, heads[k], heads[k + 1], index, row) {
             return k + 1;
         }
         j += 1;
@@ -56,11 +58,17 @@ pub(crate) fn failing_constraint(
 }
 
 // The place of a row whose field checks pass: it is asked about the constraints chosen.
-pub fn constraint_place(file: &[u8], heads: &[usize], chosen: &[usize], row: &[i64]) -> usize
-    requires { ⌜ ChecksIn (now file) (now heads) (now chosen) (length (now row)) × (length (now row) ≤ 32) × (length (now heads) ≤ 290) ⌝ }
+pub fn constraint_place(
+    file: &[u8],
+    heads: &[usize],
+    chosen: &[u8],
+    index: &[usize],
+    row: &[i64],
+) -> usize
+    requires { ⌜ ChecksIn (now file) (now heads) (now chosen) (length (now row)) × (length (now row) ≤ 32) × (length (now heads) ≤ 290) × (length (now file) ≤ 65536) × IndexIn (now file) (now index) ⌝ }
     ensures { λ r. ⌜ r ≡ behind (length (now (row .entry))) (firstChosen (holdsAt (now (file .entry)) (now (heads .entry)) (now (row .entry))) (now (chosen .entry))) ⌝ }
 {
-    let k = failing_constraint(file, heads, chosen, row);
+    let k = failing_constraint(file, heads, chosen, index, row);
     if k == 0 {
         return 0;
     }

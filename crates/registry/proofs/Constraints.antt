@@ -3,8 +3,9 @@ use mathlib.Core.Bool.{Bool, and-true, false, false≢true, not, true, true≢fa
 use mathlib.Core.List.{List, map}
 use mathlib.Core.Path.{_≡_, refl, sym}
 use lib.IntN.{negsuc, pos, ℤ}
-use Rattle.lists.specs.Integers.{eqZ}
+use Rattle.lists.specs.Integers.{elemZ, eqZ}
 use Rattle.lists.specs.Lists.{all}
+use Rattle.spec.specs.Code.{psOf}
 use Rattle.spec.specs.Kind.{ConstraintKind, Kind, bitmask, constraint, cross, enableMask, enableSet, eq, even, field, ge, gt, le, lt, member, neq, oneof, projector, range, unknown}
 use Rattle.spec.specs.Record.{Record, constraintIn, entryOf}
 use Rattle.spec.specs.Refusal.{negative}
@@ -73,3 +74,6 @@ module _ (row : List ℤ) (h : Record) (ms : List Record) where
 
   pub of-cross : crossAllows (map entryOf ms) (valueAt row (h .a)) (valueAt row (h .b)) ≡ checked (constraint cross)
   of-cross = sym (and-true _)
+
+  pub of-oneof : elemZ (valueAt row (h .a)) (psOf ms) ≡ checked (constraint oneof)
+  of-oneof = sym (and-true _)

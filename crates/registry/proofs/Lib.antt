@@ -6,3 +6,7 @@ pub mod Cross
 pub mod Constraints
 pub mod Digits
 pub mod Scale
+pub mod Ordered
+pub mod Looked
+pub mod Halves
+pub mod Alike

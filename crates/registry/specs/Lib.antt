@@ -1,3 +1,4 @@
 pub mod Check
 pub mod Project
 pub mod Code
+pub mod Index

@@ -1,4 +1,6 @@
 // The check of a constraint on a row of values: one decision over all kinds.
+use crate::sorting::finds_cross;
+use crate::sorting::finds_p;
 use crate::tests::has_bits;
 use crate::tests::in_range;
 use crate::tests::is_above;
@@ -18,11 +20,16 @@ use spec::records::q_at;
 ghost use mathlib.Core.Path.{_≡_};
 ghost use mathlib.Core.Bool.{true};
 ghost use mathlib.Core.List.{map};
-ghost use lib.ListN.{length};
+ghost use Prim.Native.Nat.{suc, _+_, _-_, _/_, _≤_, _<_};
+ghost use lib.Dec.{eqb};
+ghost use lib.ListN.{drop, getD, length, take};
+ghost use Rattle.lists.specs.Integers.{elemZ};
 ghost use Rattle.lists.specs.Lists.{all, any};
+ghost use Rattle.spec.specs.Code.{psOf};
 ghost use Rattle.spec.specs.Kind.{kindOf};
 ghost use Rattle.spec.specs.Record.{recordsOf, entryOf, constraintOf};
 ghost use Rattle.registry.specs.Check.{isPair, crossAllows, holds};
+ghost use Rattle.registry.specs.Index.{IndexIn};
 ghost use Rattle.registry.specs.Code.{testIn, passes, maskIn, groupIn, HeadIn};
 
 // The test of one value that a constraint is, with its members; records that are no such test pass every value.
@@ -73,9 +80,44 @@ pub(crate) fn crosses(run: &[u8], v: Value, w: Value) -> bool
     has_pair(run, v, w)
 }
 
+// The members of the head at a record are indexed.
+fn is_indexed(index: &[usize], head: usize, end: usize) -> bool
+    requires { ⌜ end ≤ 65536 ⌝ }
+    ensures { λ r. ⌜ r ≡ eqb (getD (now (index .entry)) head 0) (4096 + end) ⌝ }
+{
+    if index.len() <= head {
+        return false;
+    }
+    index[head] == 4096 + end
+}
+
+// The value is one of the items of the oneof at record head.
+fn has_item(file: &[u8], head: usize, end: usize, index: &[usize], v: Value) -> bool
+    requires { ⌜ (head < end) × (end ≤ length (now file) / 32) × (end ≤ 65536) × IndexIn (now file) (now index) ⌝ }
+    ensures { λ r. ⌜ r ≡ elemZ (v .0) (psOf (take (end - suc head) (drop (suc head) (recordsOf (now (file .entry)))))) ⌝ }
+{
+    let run = part(file, head + 1, end);
+    if is_indexed(index, head, end) {
+        return finds_p(run, &index[head + 1..end], v);
+    }
+    has_p(run, v)
+}
+
+// The cross at record head lets parent value v have child value w.
+fn crosses_at(file: &[u8], head: usize, end: usize, index: &[usize], v: Value, w: Value) -> bool
+    requires { ⌜ (head < end) × (end ≤ length (now file) / 32) × (end ≤ 65536) × IndexIn (now file) (now index) ⌝ }
+    ensures { λ r. ⌜ r ≡ crossAllows (map entryOf (take (end - suc head) (drop (suc head) (recordsOf (now (file .entry)))))) (v .0) (w .0) ⌝ }
+{
+    let run = part(file, head + 1, end);
+    if is_indexed(index, head, end) {
+        return finds_cross(run, &index[head + 1..end], v, w);
+    }
+    crosses(run, v, w)
+}
+
 // The constraint at record head, whose members end before record end.
-pub fn check(file: &[u8], head: usize, end: usize, row: &[i64]) -> bool
-    requires { ⌜ HeadIn (now file) head end (length (now row)) ⌝ }
+pub fn check(file: &[u8], head: usize, end: usize, index: &[usize], row: &[i64]) -> bool
+    requires { ⌜ HeadIn (now file) head end (length (now row)) × (end ≤ 65536) × IndexIn (now file) (now index) ⌝ }
     ensures { λ r. ⌜ r ≡ all (holds (now (row .entry))) (constraintOf (groupIn (now (file .entry)) head end)) ⌝ }
 {
     let code = code_at(file, head);
@@ -93,14 +135,15 @@ pub fn check(file: &[u8], head: usize, end: usize, row: &[i64]) -> bool
         ),
         12 => same(v, w),
         13 => !same(v, w),
-        14..=18 => meets(
+        14..=17 => meets(
             code,
             p_at(file, head),
             q_at(file, head),
             part(file, head + 1, end),
             v,
         ),
-        19 => crosses(part(file, head + 1, end), v, w),
+        18 => has_item(file, head, end, index, v),
+        19 => crosses_at(file, head, end, index, v, w),
         20..=255 => meets(
             code,
             p_at(file, head),

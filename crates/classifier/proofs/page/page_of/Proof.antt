@@ -59,17 +59,17 @@ due-long c = ap length (c .unsettled-of .ensures .0) ∙ sym (c .unsettled-of .e
 array-share-prefix-check-numbers : tie.Need-array-share-prefix-check-numbers
 array-share-prefix-check-numbers c = omega (arith, checks-long (c .before .before .before .before), length-take (c .before .before .before .before .checks-of .result .count) (c .before .before .before .before .checks-of .result .numbers))
 
-slice-aggregate-page-planned : tie.Need-slice-aggregate-page-planned
-slice-aggregate-page-planned c = sym (checks-long (c .before .before .before .before .before))
+slice-aggregate-page-checked : tie.Need-slice-aggregate-page-checked
+slice-aggregate-page-checked c = sym (checks-long (c .before .before .before .before .before))
 
 array-share-prefix-due-numbers : tie.Need-array-share-prefix-due-numbers
 array-share-prefix-due-numbers c = omega (arith, due-long (c .before .before .before), length-take (c .before .before .before .unsettled-of .result .count) (c .before .before .before .unsettled-of .result .numbers))
 
-slice-aggregate-page-planned-2 : tie.Need-slice-aggregate-page-planned-2
-slice-aggregate-page-planned-2 c = sym (due-long (c .before .before .before .before))
+slice-aggregate-page-checked-2 : tie.Need-slice-aggregate-page-checked-2
+slice-aggregate-page-checked-2 c = sym (due-long (c .before .before .before .before))
 
-page-planned-requires : tie.Need-page-planned-requires
-page-planned-requires c κs =
+page-checked-requires : tie.Need-page-checked-requires
+page-checked-requires c κs =
     let s = c .before .before .before .before .before .before .before .before .before .before .before .before .before .before in (
       record {
         fielded = s .pre .0;
@@ -105,9 +105,9 @@ page-of-spec =
     part-unsettled-of-end
     unsettled-of-requires
     array-share-prefix-check-numbers
-    slice-aggregate-page-planned
+    slice-aggregate-page-checked
     array-share-prefix-due-numbers
-    slice-aggregate-page-planned-2
-    page-planned-requires
+    slice-aggregate-page-checked-2
+    page-checked-requires
     same-length
     returns)

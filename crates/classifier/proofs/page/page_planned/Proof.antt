@@ -25,7 +25,7 @@ slice-aggregate-write-page-2 : tie.Need-slice-aggregate-write-page-2
 slice-aggregate-write-page-2 c = search needs
 
 write-page-requires : tie.Need-write-page-requires
-write-page-requires c κs = let s = c .before .before .before .before .before .before .before .before .before .before .before .before in (s .pre .0, no-tables (s .args .file .now) (s .args .scratch .now) (s .args .lists .now) (s .args .maps .now) (replicate 32 0) (length (s .args .order .now)) refl, s .pre .1)
+write-page-requires c κs = let s = c .before .before .before .before .before .before .before .before .before .before .before .before .before in (s .pre .0, s .pre .1, no-tables (s .args .file .now) (s .args .scratch .now) (s .args .lists .now) (s .args .maps .now) (replicate 32 0) (length (s .args .order .now)) refl, s .pre .2)
 
 same-length-2 : tie.Need-same-length-2
 same-length-2 c = search needs

@@ -26,17 +26,17 @@ use Rattle.classifier.proofs.Going.{Begun, Going, going-begun, going-du
 use Rattle.classifier.proofs.Paging.{Ends, Writing, next-fewer, page-finished, page-stopped, writing-none, writing-turn, writing-wide}
 use Rattle.classifier.proofs.Starts.{Wide, start-wide}
 use Rattle.classifier.proofs.Turning.{dueIn, turn-asks, words-long, words-verdict, wordsIn}
-use Rattle.classifier.proofs.Walked.{lent-few, rules-part, walking-walks, walking-wide}
+use Rattle.classifier.proofs.Walked.{file-short, lent-few, rules-part, walking-walks, walking-wide}
 use Rattle.classifier.proofs.page.write_page.Statement.{statement}
 use Rattle.classifier.proofs.page.write_page.Tie as tie
 
 abbrev Inv-loop : tie.InvT-loop
-Inv-loop file heads c checks due scratch lists maps order tables cells out₀ n k end numbers many last₀ more₀ tuple₀ raw₀ at₀ count₀ out last more tuple raw at count =
+Inv-loop file heads c checks due index scratch lists maps order tables cells out₀ n k end numbers many last₀ more₀ tuple₀ raw₀ at₀ count₀ out last more tuple raw at count =
     Writing (wordsIn file heads n c (planIn file scratch lists maps order .lists) (take many numbers)) (n + 4) out₀ (dueIn (planIn file scratch lists maps order) n more₀ tuple₀) last₀ at count last out
     × Going (planIn file scratch lists maps order) n (dueIn (planIn file scratch lists maps order) n more₀ tuple₀) count more tuple raw
 
 abbrev μ-loop : tie.MeasureT-loop
-μ-loop file heads c checks due scratch lists maps order tables cells out₀ n k end numbers many last₀ more₀ tuple₀ raw₀ at₀ count₀ out last more tuple raw at count = length (dueIn (planIn file scratch lists maps order) n more₀ tuple₀) - count
+μ-loop file heads c checks due index scratch lists maps order tables cells out₀ n k end numbers many last₀ more₀ tuple₀ raw₀ at₀ count₀ out last more tuple raw at count = length (dueIn (planIn file scratch lists maps order) n more₀ tuple₀) - count
 
 module _ (s : tie.Start Inv-loop μ-loop) where
   abbrev plan : Plan
@@ -54,7 +54,7 @@ module _ (s : tie.Start Inv-loop μ-loop) where
 -- the enable records, where their constraints stand
 module _ (c : tie.After-enables-of Inv-loop μ-loop) where
   abbrev e-start : tie.Start Inv-loop μ-loop
-  e-start = c .before .before .before .before .before .before .before .before .before .before .before
+  e-start = c .before .before .before .before .before .before .before .before .before .before .before .before
 
   abbrev numbers : List ℕ
   numbers = take (c .enables-of .result .count) (c .enables-of .result .numbers)
@@ -71,12 +71,12 @@ module _ (c : tie.After-enables-of Inv-loop μ-loop) where
 -- the first step
 module _ (c : tie.After-first-of Inv-loop μ-loop) where
   abbrev f-start : tie.Start Inv-loop μ-loop
-  f-start = c .before .before .before .before .before .before .before .before .before .before .before .before .before
+  f-start = c .before .before .before .before .before .before .before .before .before .before .before .before .before .before
 
   begun : Begun (plan (f-start)) (length (f-start .args .order .now)) (c .first-of .result .tuple)
   begun =
       let s = f-start in
-      subst (λ (r : Stepped). Begun (plan s) (length (s .args .order .now)) (r .tuple)) (sym (c .first-of .ensures)) (going-begun (asEngine (s .args .engine)) (s .args .file .now) (s .args .heads .now) (s .args .c) (s .args .checks .now) (s .args .due .now) (s .args .scratch .now) (s .args .lists .now) (s .args .maps .now) (s .args .order .now) (s .pre .0) (asStart (s .args .start)) (start-long s) (s .pre .2))
+      subst (λ (r : Stepped). Begun (plan s) (length (s .args .order .now)) (r .tuple)) (sym (c .first-of .ensures)) (going-begun (asEngine (s .args .engine)) (s .args .file .now) (s .args .heads .now) (s .args .c) (s .args .checks .now) (s .args .due .now) (s .args .scratch .now) (s .args .lists .now) (s .args .maps .now) (s .args .order .now) (s .pre .0) (asStart (s .args .start)) (start-long s) (s .pre .3))
 
   front-long : length (take (length (f-start .args .order .now)) (c .first-of .result .tuple)) ≡ length (f-start .args .order .now)
   front-long = let s = f-start in length-take-le (length (s .args .order .now)) (c .first-of .result .tuple) (omega (arith, begun .long, s .pre .0 .planned .plan-in .places .few))
@@ -84,7 +84,7 @@ module _ (c : tie.After-first-of Inv-loop μ-loop) where
 -- the loop
 module _ (c : tie.At-loop Inv-loop μ-loop) where
   abbrev l-start : tie.Start Inv-loop μ-loop
-  l-start = c .before .before .before .before .before .before .before .before .before .before .before .before .before .before .before .before .before .before .before .before
+  l-start = c .before .before .before .before .before .before .before .before .before .before .before .before .before .before .before .before .before .before .before .before .before
 
   wide-out : length (c .loop .out) ≡ length (l-start .args .out .now)
   wide-out = writing-wide _ _ _ _ _ (c .loop .at) (c .loop .count) (c .loop .last) (c .loop .out) (c .loop .inv .0)
@@ -96,7 +96,7 @@ module _ (c : tie.At-loop Inv-loop μ-loop) where
   due-is : dueTuples (asEngine (l-start .args .engine)) (decoded (l-start .args .file .now)) (asStart (l-start .args .start)) ≡ dueIn (plan (l-start)) (length (l-start .args .order .now)) (c .before .before .before .before .before .before .before .first-of .result .more) (c .before .before .before .before .before .before .before .first-of .result .tuple)
   due-is =
       let s = l-start in
-      going-due (asEngine (s .args .engine)) (s .args .file .now) (s .args .heads .now) (s .args .c) (s .args .checks .now) (s .args .due .now) (s .args .scratch .now) (s .args .lists .now) (s .args .maps .now) (s .args .order .now) (s .pre .0) (asStart (s .args .start)) (start-long s) (s .pre .2) ∙ ap (λ (r : Stepped). dueIn (plan s) (length (s .args .order .now)) (r .more) (r .tuple)) (sym (c .before .before .before .before .before .before .before .first-of .ensures))
+      going-due (asEngine (s .args .engine)) (s .args .file .now) (s .args .heads .now) (s .args .c) (s .args .checks .now) (s .args .due .now) (s .args .scratch .now) (s .args .lists .now) (s .args .maps .now) (s .args .order .now) (s .pre .0) (asStart (s .args .start)) (start-long s) (s .pre .3) ∙ ap (λ (r : Stepped). dueIn (plan s) (length (s .args .order .now)) (r .more) (r .tuple)) (sym (c .before .before .before .before .before .before .before .first-of .ensures))
 
   writing : Writing (λ t. words (verdictOf (asEngine (l-start .args .engine)) (decoded (l-start .args .file .now)) t)) (length (l-start .args .order .now) + 4) (l-start .args .out .now) (dueTuples (asEngine (l-start .args .engine)) (decoded (l-start .args .file .now)) (asStart (l-start .args .start))) (startTuple (asStart (l-start .args .start))) (c .loop .at) (c .loop .count) (c .loop .last) (c .loop .out)
   writing =
@@ -135,55 +135,55 @@ room : (c : tie.Else1 Inv-loop μ-loop) → c .before .before .loop .at + (lengt
 room c = omega (arith, c .if1 .left, wide-out (c .before .before), c .before .before .loop .inv .0 .within)
 
 add-k : tie.Need-add-k Inv-loop μ-loop
-add-k c = let f = c .before .before .before .before .before .before .before .before .before .pre .0 .planned .plan-in .places .few in let l = c .before .before .before .before .before .before .before .before .before .pre .0 .opened .long in search needs
+add-k c = let f = c .before .before .before .before .before .before .before .before .before .before .pre .0 .planned .plan-in .places .few in let l = c .before .before .before .before .before .before .before .before .before .before .pre .0 .opened .long in search needs
 
 add-end : tie.Need-add-end Inv-loop μ-loop
-add-end c = let f = c .before .before .before .before .before .before .before .before .before .pre .0 .planned .plan-in .places .few in let l = c .before .before .before .before .before .before .before .before .before .pre .0 .opened .long in search needs
+add-end c = let f = c .before .before .before .before .before .before .before .before .before .before .pre .0 .planned .plan-in .places .few in let l = c .before .before .before .before .before .before .before .before .before .before .pre .0 .opened .long in search needs
 
 mul-enables-of : tie.Need-mul-enables-of Inv-loop μ-loop
-mul-enables-of c = let f = c .before .before .before .before .before .before .before .before .before .pre .0 .planned .plan-in .places .few in let l = c .before .before .before .before .before .before .before .before .before .pre .0 .opened .long in search needs
+mul-enables-of c = let f = c .before .before .before .before .before .before .before .before .before .before .pre .0 .planned .plan-in .places .few in let l = c .before .before .before .before .before .before .before .before .before .before .pre .0 .opened .long in search needs
 
 sub-enables-of : tie.Need-sub-enables-of Inv-loop μ-loop
-sub-enables-of c = let f = c .before .before .before .before .before .before .before .before .before .pre .0 .planned .plan-in .places .few in let l = c .before .before .before .before .before .before .before .before .before .pre .0 .opened .long in search needs
+sub-enables-of c = let f = c .before .before .before .before .before .before .before .before .before .before .pre .0 .planned .plan-in .places .few in let l = c .before .before .before .before .before .before .before .before .before .before .pre .0 .opened .long in search needs
 
 part-enables-of-start : tie.Need-part-enables-of-start Inv-loop μ-loop
-part-enables-of-start c = let f = c .before .before .before .before .before .before .before .before .before .pre .0 .planned .plan-in .places .few in let l = c .before .before .before .before .before .before .before .before .before .pre .0 .opened .long in search needs
+part-enables-of-start c = let f = c .before .before .before .before .before .before .before .before .before .before .pre .0 .planned .plan-in .places .few in let l = c .before .before .before .before .before .before .before .before .before .before .pre .0 .opened .long in search needs
 
 part-enables-of-end : tie.Need-part-enables-of-end Inv-loop μ-loop
-part-enables-of-end c = let f = c .before .before .before .before .before .before .before .before .before .pre .0 .planned .plan-in .places .few in let l = c .before .before .before .before .before .before .before .before .before .pre .0 .opened .long in search needs
+part-enables-of-end c = let f = c .before .before .before .before .before .before .before .before .before .before .pre .0 .planned .plan-in .places .few in let l = c .before .before .before .before .before .before .before .before .before .before .pre .0 .opened .long in search needs
 
 enables-of-requires : tie.Need-enables-of-requires Inv-loop μ-loop
 enables-of-requires c κs =
-    let s = c .before .before .before .before .before .before .before .before .before .before in
+    let s = c .before .before .before .before .before .before .before .before .before .before .before in
     (constraints-low (s .args .file .now) (s .args .heads .now) (length (s .args .order .now)) (s .args .c) (s .pre .0 .opened) structural (s .args .c) refl, lent-few (s .args .file .now) (s .args .heads .now) (length (s .args .order .now)) (s .args .c) (s .pre .0 .opened))
 
 first-of-requires : tie.Need-first-of-requires Inv-loop μ-loop
-first-of-requires c κs = let s = c .before .before .before .before .before .before .before .before .before .before .before .before in (s .pre .0 .planned .plan-in, walking-walks (asEngine (s .args .engine)) (s .args .file .now) (s .args .heads .now) (s .args .c) (s .args .checks .now) (s .args .due .now) (s .args .scratch .now) (s .args .lists .now) (s .args .maps .now) (s .args .order .now) (s .pre .0), s .pre .2)
+first-of-requires c κs = let s = c .before .before .before .before .before .before .before .before .before .before .before .before .before in (s .pre .0 .planned .plan-in, walking-walks (asEngine (s .args .engine)) (s .args .file .now) (s .args .heads .now) (s .args .c) (s .args .checks .now) (s .args .due .now) (s .args .scratch .now) (s .args .lists .now) (s .args .maps .now) (s .args .order .now) (s .pre .0), s .pre .3)
 
 start-tuple-requires : tie.Need-start-tuple-requires Inv-loop μ-loop
 start-tuple-requires c κs = tt
 
 array-share-prefix-tuple : tie.Need-array-share-prefix-tuple Inv-loop μ-loop
-array-share-prefix-tuple c = omega (arith, begun (c .before .before) .long, c .before .before .before .before .before .before .before .before .before .before .before .before .before .before .before .pre .0 .planned .plan-in .places .few)
+array-share-prefix-tuple c = omega (arith, begun (c .before .before) .long, c .before .before .before .before .before .before .before .before .before .before .before .before .before .before .before .before .pre .0 .planned .plan-in .places .few)
 
 slice-aggregate-pick-row : tie.Need-slice-aggregate-pick-row Inv-loop μ-loop
 slice-aggregate-pick-row c = sym (front-long (c .before .before .before))
 
 array-borrow-prefix-raw : tie.Need-array-borrow-prefix-raw Inv-loop μ-loop
-array-borrow-prefix-raw c = c .before .before .before .before .before .before .before .before .before .before .before .before .before .before .before .before .pre .0 .planned .plan-in .places .few
+array-borrow-prefix-raw c = c .before .before .before .before .before .before .before .before .before .before .before .before .before .before .before .before .before .pre .0 .planned .plan-in .places .few
 
 slice-aggregate-pick-row-2 : tie.Need-slice-aggregate-pick-row-2 Inv-loop μ-loop
-slice-aggregate-pick-row-2 c = let s = c .before .before .before .before .before .before .before .before .before .before .before .before .before .before .before .before .before in sym (length-take-le (length (s .args .order .now)) (replicate 32 (pos 0)) (s .pre .0 .planned .plan-in .places .few))
+slice-aggregate-pick-row-2 c = let s = c .before .before .before .before .before .before .before .before .before .before .before .before .before .before .before .before .before .before in sym (length-take-le (length (s .args .order .now)) (replicate 32 (pos 0)) (s .pre .0 .planned .plan-in .places .few))
 
 pick-row-requires : tie.Need-pick-row-requires Inv-loop μ-loop
 pick-row-requires c κs =
-    let s = c .before .before .before .before .before .before .before .before .before .before .before .before .before .before .before .before .before in
+    let s = c .before .before .before .before .before .before .before .before .before .before .before .before .before .before .before .before .before .before in
     let t = c .before .before .before .before in
     (pick-in (s .args .file .now) (s .args .scratch .now) (s .args .lists .now) (s .args .maps .now) (s .args .order .now) (s .pre .0 .planned .plan-in .places) (take (length (s .args .order .now)) (t .first-of .result .tuple)) (begun t .placed), length-take-le (length (s .args .order .now)) (replicate 32 (pos 0)) (s .pre .0 .planned .plan-in .places .few) ∙ sym (front-long t))
 
 loop-holds : tie.Need-loop-holds Inv-loop μ-loop
 loop-holds c =
-    let s = c .before .before .before .before .before .before .before .before .before .before .before .before .before .before .before .before .before .before .before in
+    let s = c .before .before .before .before .before .before .before .before .before .before .before .before .before .before .before .before .before .before .before .before in
     let t = c .before .before .before .before .before .before in
     let r = c .before .pick-row in
     let row = r .last .1 .1 .1 .0 in
@@ -202,7 +202,7 @@ sub-if1 : tie.Need-sub-if1 Inv-loop μ-loop
 sub-if1 c = let i = inside (c .before) in omega (arith, i)
 
 add-if1 : tie.Need-add-if1 Inv-loop μ-loop
-add-if1 c = let f = c .before .before .before .before .before .before .before .before .before .before .before .before .before .before .before .before .before .before .before .before .before .pre .0 .planned .plan-in .places .few in let l = c .before .before .before .before .before .before .before .before .before .before .before .before .before .before .before .before .before .before .before .before .before .pre .0 .opened .long in search needs
+add-if1 c = let f = c .before .before .before .before .before .before .before .before .before .before .before .before .before .before .before .before .before .before .before .before .before .before .pre .0 .planned .plan-in .places .few in let l = c .before .before .before .before .before .before .before .before .before .before .before .before .before .before .before .before .before .before .before .before .before .before .pre .0 .opened .long in search needs
 
 written-requires : tie.Need-written-requires Inv-loop μ-loop
 written-requires c κs = tt
@@ -212,31 +212,31 @@ same-length c = wide-out (c .before .before .before)
 
 returns : tie.Need-returns Inv-loop μ-loop
 returns c =
-    let s = c .before .before .before .before .before .before .before .before .before .before .before .before .before .before .before .before .before .before .before .before .before .before .before in
+    let s = c .before .before .before .before .before .before .before .before .before .before .before .before .before .before .before .before .before .before .before .before .before .before .before .before in
     let a = c .before .before .before in
     let e = stopped (c .before .before) (c .before .if1 .taken) in
     (c .written .ensures .0 ∙ e .0, e .1)
 
 add-next : tie.Need-add-next Inv-loop μ-loop
-add-next c = let f = c .before .before .before .before .before .before .before .before .before .before .before .before .before .before .before .before .before .before .before .before .before .before .pre .0 .planned .plan-in .places .few in let l = c .before .before .before .before .before .before .before .before .before .before .before .before .before .before .before .before .before .before .before .before .before .before .pre .0 .opened .long in search needs
+add-next c = let f = c .before .before .before .before .before .before .before .before .before .before .before .before .before .before .before .before .before .before .before .before .before .before .before .pre .0 .planned .plan-in .places .few in let l = c .before .before .before .before .before .before .before .before .before .before .before .before .before .before .before .before .before .before .before .before .before .before .before .pre .0 .opened .long in search needs
 
 add-next-2 : tie.Need-add-next-2 Inv-loop μ-loop
-add-next-2 c = let i = room c in let h = out-small (c .before .before .before .before .before .before .before .before .before .before .before .before .before .before .before .before .before .before .before .before .before .before) in record { fits = omega arith }
+add-next-2 c = let i = room c in let h = out-small (c .before .before .before .before .before .before .before .before .before .before .before .before .before .before .before .before .before .before .before .before .before .before .before) in record { fits = omega arith }
 
 slice-aggregate-write-verdict : tie.Need-slice-aggregate-write-verdict Inv-loop μ-loop
-slice-aggregate-write-verdict c = let s = c .before .before .before .before .before .before .before .before .before .before .before .before .before .before .before .before .before .before .before .before .before .before .before in sym (field-heads (s .args .file .now) (s .args .heads .now) (length (s .args .order .now)) (s .args .c) (s .pre .0 .opened))
+slice-aggregate-write-verdict c = let s = c .before .before .before .before .before .before .before .before .before .before .before .before .before .before .before .before .before .before .before .before .before .before .before .before in sym (field-heads (s .args .file .now) (s .args .heads .now) (length (s .args .order .now)) (s .args .c) (s .pre .0 .opened))
 
 mul-write-verdict : tie.Need-mul-write-verdict Inv-loop μ-loop
-mul-write-verdict c = let f = c .before .before .before .before .before .before .before .before .before .before .before .before .before .before .before .before .before .before .before .before .before .before .before .pre .0 .planned .plan-in .places .few in let l = c .before .before .before .before .before .before .before .before .before .before .before .before .before .before .before .before .before .before .before .before .before .before .before .pre .0 .opened .long in search needs
+mul-write-verdict c = let f = c .before .before .before .before .before .before .before .before .before .before .before .before .before .before .before .before .before .before .before .before .before .before .before .before .pre .0 .planned .plan-in .places .few in let l = c .before .before .before .before .before .before .before .before .before .before .before .before .before .before .before .before .before .before .before .before .before .before .before .before .pre .0 .opened .long in search needs
 
 sub-write-verdict : tie.Need-sub-write-verdict Inv-loop μ-loop
-sub-write-verdict c = let f = c .before .before .before .before .before .before .before .before .before .before .before .before .before .before .before .before .before .before .before .before .before .before .before .pre .0 .planned .plan-in .places .few in let l = c .before .before .before .before .before .before .before .before .before .before .before .before .before .before .before .before .before .before .before .before .before .before .before .pre .0 .opened .long in search needs
+sub-write-verdict c = let f = c .before .before .before .before .before .before .before .before .before .before .before .before .before .before .before .before .before .before .before .before .before .before .before .before .pre .0 .planned .plan-in .places .few in let l = c .before .before .before .before .before .before .before .before .before .before .before .before .before .before .before .before .before .before .before .before .before .before .before .before .pre .0 .opened .long in search needs
 
 part-write-verdict-start : tie.Need-part-write-verdict-start Inv-loop μ-loop
-part-write-verdict-start c = let f = c .before .before .before .before .before .before .before .before .before .before .before .before .before .before .before .before .before .before .before .before .before .before .before .pre .0 .planned .plan-in .places .few in let l = c .before .before .before .before .before .before .before .before .before .before .before .before .before .before .before .before .before .before .before .before .before .before .before .pre .0 .opened .long in search needs
+part-write-verdict-start c = let f = c .before .before .before .before .before .before .before .before .before .before .before .before .before .before .before .before .before .before .before .before .before .before .before .before .pre .0 .planned .plan-in .places .few in let l = c .before .before .before .before .before .before .before .before .before .before .before .before .before .before .before .before .before .before .before .before .before .before .before .before .pre .0 .opened .long in search needs
 
 part-write-verdict-end : tie.Need-part-write-verdict-end Inv-loop μ-loop
-part-write-verdict-end c = let f = c .before .before .before .before .before .before .before .before .before .before .before .before .before .before .before .before .before .before .before .before .before .before .before .pre .0 .planned .plan-in .places .few in let l = c .before .before .before .before .before .before .before .before .before .before .before .before .before .before .before .before .before .before .before .before .before .before .before .pre .0 .opened .long in search needs
+part-write-verdict-end c = let f = c .before .before .before .before .before .before .before .before .before .before .before .before .before .before .before .before .before .before .before .before .before .before .before .before .pre .0 .planned .plan-in .places .few in let l = c .before .before .before .before .before .before .before .before .before .before .before .before .before .before .before .before .before .before .before .before .before .before .before .before .pre .0 .opened .long in search needs
 
 array-share-prefix-numbers : tie.Need-array-share-prefix-numbers Inv-loop μ-loop
 array-share-prefix-numbers c = numbers-wide (c .before .before .before .before .before .before .before .before .before .before .before .before .before)
@@ -245,22 +245,22 @@ slice-aggregate-write-verdict-2 : tie.Need-slice-aggregate-write-verdict-2 Inv-l
 slice-aggregate-write-verdict-2 c = let e = c .before .before .before .before .before .before .before .before .before .before .before .before .before .before in sym (length-take-le (e .enables-of .result .count) (e .enables-of .result .numbers) (numbers-wide e))
 
 add-write-verdict : tie.Need-add-write-verdict Inv-loop μ-loop
-add-write-verdict c = let h = heads-small (c .before .before .before .before .before .before .before .before .before .before .before .before .before .before .before .before .before .before .before .before .before .before .before .before .before) in let l = c .before .before .before .before .before .before .before .before .before .before .before .before .before .before .before .before .before .before .before .before .before .before .before .before .before .pre .0 .opened .long in record { fits = omega arith }
+add-write-verdict c = let h = heads-small (c .before .before .before .before .before .before .before .before .before .before .before .before .before .before .before .before .before .before .before .before .before .before .before .before .before .before) in let l = c .before .before .before .before .before .before .before .before .before .before .before .before .before .before .before .before .before .before .before .before .before .before .before .before .before .before .pre .0 .opened .long in record { fits = omega arith }
 
 mul-write-verdict-2 : tie.Need-mul-write-verdict-2 Inv-loop μ-loop
-mul-write-verdict-2 c = let h = heads-small (c .before .before .before .before .before .before .before .before .before .before .before .before .before .before .before .before .before .before .before .before .before .before .before .before .before) in let l = c .before .before .before .before .before .before .before .before .before .before .before .before .before .before .before .before .before .before .before .before .before .before .before .before .before .pre .0 .opened .long in record { fits = omega arith }
+mul-write-verdict-2 c = let h = heads-small (c .before .before .before .before .before .before .before .before .before .before .before .before .before .before .before .before .before .before .before .before .before .before .before .before .before .before) in let l = c .before .before .before .before .before .before .before .before .before .before .before .before .before .before .before .before .before .before .before .before .before .before .before .before .before .before .pre .0 .opened .long in record { fits = omega arith }
 
 shared-slice-read-write-verdict : tie.Need-shared-slice-read-write-verdict Inv-loop μ-loop
-shared-slice-read-write-verdict c = let f = c .before .before .before .before .before .before .before .before .before .before .before .before .before .before .before .before .before .before .before .before .before .before .before .before .before .before .pre .0 .planned .plan-in .places .few in let l = c .before .before .before .before .before .before .before .before .before .before .before .before .before .before .before .before .before .before .before .before .before .before .before .before .before .before .pre .0 .opened .long in search needs
+shared-slice-read-write-verdict c = let f = c .before .before .before .before .before .before .before .before .before .before .before .before .before .before .before .before .before .before .before .before .before .before .before .before .before .before .before .pre .0 .planned .plan-in .places .few in let l = c .before .before .before .before .before .before .before .before .before .before .before .before .before .before .before .before .before .before .before .before .before .before .before .before .before .before .before .pre .0 .opened .long in search needs
 
 array-share-prefix-raw : tie.Need-array-share-prefix-raw Inv-loop μ-loop
-array-share-prefix-raw c = let f = c .before .before .before .before .before .before .before .before .before .before .before .before .before .before .before .before .before .before .before .before .before .before .before .before .before .before .pre .0 .planned .plan-in .places .few in omega (arith, c .before .before .before .before .before .before .loop .inv .1 .wide)
+array-share-prefix-raw c = let f = c .before .before .before .before .before .before .before .before .before .before .before .before .before .before .before .before .before .before .before .before .before .before .before .before .before .before .before .pre .0 .planned .plan-in .places .few in omega (arith, c .before .before .before .before .before .before .loop .inv .1 .wide)
 
 slice-aggregate-write-verdict-3 : tie.Need-slice-aggregate-write-verdict-3 Inv-loop μ-loop
-slice-aggregate-write-verdict-3 c = let s = c .before .before .before .before .before .before .before .before .before .before .before .before .before .before .before .before .before .before .before .before .before .before .before .before .before .before .before in let l = c .before .before .before .before .before .before .before .loop in sym (length-take-le (length (s .args .order .now)) (l .raw) (omega (arith, l .inv .1 .wide, s .pre .0 .planned .plan-in .places .few)))
+slice-aggregate-write-verdict-3 c = let s = c .before .before .before .before .before .before .before .before .before .before .before .before .before .before .before .before .before .before .before .before .before .before .before .before .before .before .before .before in let l = c .before .before .before .before .before .before .before .loop in sym (length-take-le (length (s .args .order .now)) (l .raw) (omega (arith, l .inv .1 .wide, s .pre .0 .planned .plan-in .places .few)))
 
 mul-write-verdict-3 : tie.Need-mul-write-verdict-3 Inv-loop μ-loop
-mul-write-verdict-3 c = let i = room (c .before .before .before .before .before) in let h = out-small (c .before .before .before .before .before .before .before .before .before .before .before .before .before .before .before .before .before .before .before .before .before .before .before .before .before .before .before) in record { fits = omega arith }
+mul-write-verdict-3 c = let i = room (c .before .before .before .before .before) in let h = out-small (c .before .before .before .before .before .before .before .before .before .before .before .before .before .before .before .before .before .before .before .before .before .before .before .before .before .before .before .before) in record { fits = omega arith }
 
 sub-write-verdict-2 : tie.Need-sub-write-verdict-2 Inv-loop μ-loop
 sub-write-verdict-2 c = omega arith
@@ -273,46 +273,46 @@ part-write-verdict-end-2 c = let i = room (c .before .before .before .before .be
 
 write-verdict-requires : tie.Need-write-verdict-requires Inv-loop μ-loop
 write-verdict-requires c κs =
-    let s = c .before .before .before .before .before .before .before .before .before .before .before .before .before .before .before .before .before .before .before .before .before .before .before .before .before .before .before .before in
+    let s = c .before .before .before .before .before .before .before .before .before .before .before .before .before .before .before .before .before .before .before .before .before .before .before .before .before .before .before .before .before in
     let a = c .before .before .before .before .before .before .before .before in
     let i = room (c .before .before .before .before .before .before) in
     let k = wide-out a in
     let l = a .loop in
     let t = turn-asks (asEngine (s .args .engine)) (s .args .file .now) (s .args .heads .now) (s .args .c) (s .args .checks .now) (s .args .due .now) (s .args .scratch .now) (s .args .lists .now) (s .args .maps .now) (s .args .order .now) (s .pre .0) (numbers (c .before .before .before .before .before .before .before .before .before .before .before .before .before .before .before .before .before)) (chosen (c .before .before .before .before .before .before .before .before .before .before .before .before .before .before .before .before .before)) (kinds (c .before .before .before .before .before .before .before .before .before .before .before .before .before .before .before .before .before)) (l .tuple) (take (length (s .args .order .now)) (l .raw)) (l .inv .1 .begun) (l .inv .1 .stands) (take (length (s .args .order .now) + 1) (s .args .heads .now)) (take (length (s .args .order .now) + 1 + s .args .c - length (s .args .order .now)) (drop (length (s .args .order .now)) (s .args .heads .now)))
     (ap (λ (m : ℕ). take m (s .args .heads .now)) (add-one (length (s .args .order .now)))) (rules-part (s .args .heads .now) (length (s .args .order .now)) (s .args .c)) in
-    (t .0, t .1, t .2, t .3, mid-len (l .at) (l .at + (length (s .args .order .now) + 4)) (l .out) (omega arith) ∙ omega (arith, length-take-le (length (s .args .order .now)) (l .raw) (omega (arith, l .inv .1 .wide, s .pre .0 .planned .plan-in .places .few))))
+    (t .0, t .1, t .2, t .3, mid-len (l .at) (l .at + (length (s .args .order .now) + 4)) (l .out) (omega arith) ∙ omega (arith, length-take-le (length (s .args .order .now)) (l .raw) (omega (arith, l .inv .1 .wide, s .pre .0 .planned .plan-in .places .few))), file-short (s .args .file .now) (s .args .heads .now) (length (s .args .order .now)) (s .args .c) (s .pre .0 .opened), s .pre .1)
 
 add-count : tie.Need-add-count Inv-loop μ-loop
-add-count c = let l = c .before .before .before .before .before .before .before .before .before .before .loop in let i = room (c .before .before .before .before .before .before .before .before) in let k = l .inv .0 .few in let h = out-small (c .before .before .before .before .before .before .before .before .before .before .before .before .before .before .before .before .before .before .before .before .before .before .before .before .before .before .before .before .before .before) in record { fits = omega arith }
+add-count c = let l = c .before .before .before .before .before .before .before .before .before .before .loop in let i = room (c .before .before .before .before .before .before .before .before) in let k = l .inv .0 .few in let h = out-small (c .before .before .before .before .before .before .before .before .before .before .before .before .before .before .before .before .before .before .before .before .before .before .before .before .before .before .before .before .before .before .before) in record { fits = omega arith }
 
 array-borrow-prefix-tuple : tie.Need-array-borrow-prefix-tuple Inv-loop μ-loop
-array-borrow-prefix-tuple c = let f = c .before .before .before .before .before .before .before .before .before .before .before .before .before .before .before .before .before .before .before .before .before .before .before .before .before .before .before .before .before .before .pre .0 .planned .plan-in .places .few in omega (arith, c .before .before .before .before .before .before .before .before .before .before .loop .inv .1 .begun .long)
+array-borrow-prefix-tuple c = let f = c .before .before .before .before .before .before .before .before .before .before .before .before .before .before .before .before .before .before .before .before .before .before .before .before .before .before .before .before .before .before .before .pre .0 .planned .plan-in .places .few in omega (arith, c .before .before .before .before .before .before .before .before .before .before .loop .inv .1 .begun .long)
 
-slice-aggregate-advance : tie.Need-slice-aggregate-advance Inv-loop μ-loop
-slice-aggregate-advance c = let s = c .before .before .before .before .before .before .before .before .before .before .before .before .before .before .before .before .before .before .before .before .before .before .before .before .before .before .before .before .before .before .before in let l = c .before .before .before .before .before .before .before .before .before .before .before .loop in sym (length-take-le (length (s .args .order .now)) (l .tuple) (omega (arith, l .inv .1 .begun .long, s .pre .0 .planned .plan-in .places .few)))
+slice-aggregate-step : tie.Need-slice-aggregate-step Inv-loop μ-loop
+slice-aggregate-step c = let s = c .before .before .before .before .before .before .before .before .before .before .before .before .before .before .before .before .before .before .before .before .before .before .before .before .before .before .before .before .before .before .before .before in let l = c .before .before .before .before .before .before .before .before .before .before .before .loop in sym (length-take-le (length (s .args .order .now)) (l .tuple) (omega (arith, l .inv .1 .begun .long, s .pre .0 .planned .plan-in .places .few)))
 
 array-borrow-prefix-raw-2 : tie.Need-array-borrow-prefix-raw-2 Inv-loop μ-loop
-array-borrow-prefix-raw-2 c = let f = c .before .before .before .before .before .before .before .before .before .before .before .before .before .before .before .before .before .before .before .before .before .before .before .before .before .before .before .before .before .before .before .pre .0 .planned .plan-in .places .few in omega (arith, c .before .before .before .before .before .before .before .before .before .before .before .loop .inv .1 .wide)
+array-borrow-prefix-raw-2 c = let f = c .before .before .before .before .before .before .before .before .before .before .before .before .before .before .before .before .before .before .before .before .before .before .before .before .before .before .before .before .before .before .before .before .pre .0 .planned .plan-in .places .few in omega (arith, c .before .before .before .before .before .before .before .before .before .before .before .loop .inv .1 .wide)
 
-slice-aggregate-advance-2 : tie.Need-slice-aggregate-advance-2 Inv-loop μ-loop
-slice-aggregate-advance-2 c = let s = c .before .before .before .before .before .before .before .before .before .before .before .before .before .before .before .before .before .before .before .before .before .before .before .before .before .before .before .before .before .before .before .before in let l = c .before .before .before .before .before .before .before .before .before .before .before .before .loop in sym (length-take-le (length (s .args .order .now)) (l .raw) (omega (arith, l .inv .1 .wide, s .pre .0 .planned .plan-in .places .few)))
+slice-aggregate-step-2 : tie.Need-slice-aggregate-step-2 Inv-loop μ-loop
+slice-aggregate-step-2 c = let s = c .before .before .before .before .before .before .before .before .before .before .before .before .before .before .before .before .before .before .before .before .before .before .before .before .before .before .before .before .before .before .before .before .before in let l = c .before .before .before .before .before .before .before .before .before .before .before .before .loop in sym (length-take-le (length (s .args .order .now)) (l .raw) (omega (arith, l .inv .1 .wide, s .pre .0 .planned .plan-in .places .few)))
 
-advance-requires : tie.Need-advance-requires Inv-loop μ-loop
-advance-requires c κs = let s = c .before .before .before .before .before .before .before .before .before .before .before .before .before .before .before .before .before .before .before .before .before .before .before .before .before .before .before .before .before .before .before .before in (s .pre .0 .planned .plan-in, s .pre .1, c .before .before .before .before .before .before .before .before .before .before .before .before .loop .inv .1 .stands)
+step-requires : tie.Need-step-requires Inv-loop μ-loop
+step-requires c κs = let s = c .before .before .before .before .before .before .before .before .before .before .before .before .before .before .before .before .before .before .before .before .before .before .before .before .before .before .before .before .before .before .before .before .before in (s .pre .0 .planned .plan-in, s .pre .2, c .before .before .before .before .before .before .before .before .before .before .before .before .loop .inv .1 .stands, s .pre .0 .fielded)
 
 loop-less : tie.Need-loop-less Inv-loop μ-loop
 loop-less c = let a = c .before .before .before .before .before .before .before .before .before .before .before .before .before .before .before in let m = next-fewer (a .loop .count) _ _ _ (next (c .before .before .before .before .before .before .before .before .before .before .before .before .before .before)) in omega arith
 
 loop-again : tie.Need-loop-again Inv-loop μ-loop
 loop-again c =
-    let s = c .before .before .before .before .before .before .before .before .before .before .before .before .before .before .before .before .before .before .before .before .before .before .before .before .before .before .before .before .before .before .before .before .before .before .before in
+    let s = c .before .before .before .before .before .before .before .before .before .before .before .before .before .before .before .before .before .before .before .before .before .before .before .before .before .before .before .before .before .before .before .before .before .before .before .before in
     let a = c .before .before .before .before .before .before .before .before .before .before .before .before .before .before .before in
     let l = a .loop in
     let e = c .before .before .before .before .before .before .before .before .before .before .before .before .before .before .before .before .before .before .before .before .before .before .before .before in
     let v = c .before .before .before .before .before .before .write-verdict in
-    let d = c .before .before .advance in
+    let d = c .before .before .step in
     let i = room (c .before .before .before .before .before .before .before .before .before .before .before .before .before) in
-    let part = v .last .1 .1 .1 .1 .1 .1 .1 .1 .0 in
+    let part = v .last .1 .1 .1 .1 .1 .1 .1 .1 .1 .0 in
     let new : part ≡ wordsIn (s .args .file .now) (s .args .heads .now) (length (s .args .order .now)) (s .args .c) (plan s .lists) (numbers e) (take (length (s .args .order .now)) (l .tuple))
     = v .ensures ∙ ap₂ (λ (r : List ℕ) (row : List ℤ). words (evaluate (decoded (s .args .file .now)) (forcedRow (s .args .file .now) r (numbers e) row))) (rules-part (s .args .heads .now) (length (s .args .order .now)) (s .args .c)) (l .inv .1 .stands .row-is) in
     let st = writing-turn _ _ _ _ _ (l .at) (l .count) (l .last) (l .out) (l .inv .0) (take (length (s .args .order .now)) (l .tuple)) _ part (next (c .before .before .before .before .before .before .before .before .before .before .before .before .before .before)) new (words-long (asEngine (s .args .engine)) (s .args .file .now) (s .args .heads .now) (s .args .c) (s .args .checks .now) (s .args .due .now) (s .args .scratch .now) (s .args .lists .now) (s .args .maps .now) (s .args .order .now) (s .pre .0) (numbers e) (chosen e) (kinds e) (l .tuple) (take (length (s .args .order .now)) (l .raw)) (l .inv .1 .begun) (l .inv .1 .stands)) (omega arith) i in (
@@ -378,10 +378,10 @@ write-page-spec =
     write-verdict-requires
     add-count
     array-borrow-prefix-tuple
-    slice-aggregate-advance
+    slice-aggregate-step
     array-borrow-prefix-raw-2
-    slice-aggregate-advance-2
-    advance-requires
+    slice-aggregate-step-2
+    step-requires
     loop-less
     loop-again
     written-requires-2

@@ -42,9 +42,9 @@ part-projection-end c = search needs
 
 projection-requires : tie.Need-projection-requires
 projection-requires c κs =
-    let s = c .before .before .before .before .before .before .before .before .before .before .before in
+    let s = c .before .before .before .before .before .before .before .before .before .before .before .before in
     let y = c .before .before .before .judge in
-    let e = laid-part (s .args .file .now) (s .args .fields .now) (s .args .rules .now) (s .args .enables .now) (s .args .checks .now) (s .args .due .now) (s .args .raw .now) (s .pre .0) (s .args .out .now) (s .pre .4) (y .last .1 .1 .1 .1 .1 .1 .1 .0) (y .ensures .0) in
+    let e = laid-part (s .args .file .now) (s .args .fields .now) (s .args .rules .now) (s .args .enables .now) (s .args .checks .now) (s .args .due .now) (s .args .raw .now) (s .pre .0) (s .args .out .now) (s .pre .4) (y .last .1 .1 .1 .1 .1 .1 .1 .1 .0) (y .ensures .0) in
     rw e (s .pre .2, subst (ProjectorIn (s .args .file .now) (s .args .projector)) (sym (forced-long (s .args .file .now) (s .args .fields .now) (s .args .rules .now) (s .args .enables .now) (s .args .checks .now) (s .args .due .now) (s .args .raw .now) (s .pre .0))) (s .pre .3 .inside))
 
 slice-set-from-out : tie.Need-slice-set-from-out
@@ -53,7 +53,7 @@ slice-set-from-out c = search needs
 -- the place is small
 small : (c : tie.Joined1) → c .before .before .before .before .before .judge .result < 2 ^ 63
 small c =
-    let s = c .before .before .before .before .before .before .before .before .before .before .before .before .before in
+    let s = c .before .before .before .before .before .before .before .before .before .before .before .before .before .before in
     let y = c .before .before .before .before .before .judge in
     let h = place-few (s .args .file .now) (s .args .fields .now) (s .args .rules .now) (s .args .enables .now) (s .args .checks .now) (s .args .due .now) (s .args .raw .now) (s .pre .0) (forcedRow (s .args .file .now) (s .args .rules .now) (s .args .enables .now) (s .args .raw .now)) in
     omega (arith, y .ensures .1)
@@ -63,33 +63,33 @@ cast-out c = record { sfits = small c }
 
 slice-set-from-out-2 : tie.Need-slice-set-from-out-2
 slice-set-from-out-2 c =
-    let s = c .before .before .before .before .before .before .before .before .before .before .before .before .before in
+    let s = c .before .before .before .before .before .before .before .before .before .before .before .before .before .before in
     let y = c .before .before .before .before .before .judge in
     let w = s .pre .4 in
-    let l = laid-long (s .args .file .now) (s .args .fields .now) (s .args .rules .now) (s .args .enables .now) (s .args .checks .now) (s .args .due .now) (s .args .raw .now) (s .pre .0) (s .args .out .now) (s .pre .4) (y .last .1 .1 .1 .1 .1 .1 .1 .0) (y .ensures .0) in
-    lt-length-set (putMid 4 (length (s .args .out .now) - 4) (s .args .out .now) (y .last .1 .1 .1 .1 .1 .1 .1 .0)) 0 (toZ w64 (c .if1 .out)) {i = 1} (omega arith)
+    let l = laid-long (s .args .file .now) (s .args .fields .now) (s .args .rules .now) (s .args .enables .now) (s .args .checks .now) (s .args .due .now) (s .args .raw .now) (s .pre .0) (s .args .out .now) (s .pre .4) (y .last .1 .1 .1 .1 .1 .1 .1 .1 .0) (y .ensures .0) in
+    lt-length-set (putMid 4 (length (s .args .out .now) - 4) (s .args .out .now) (y .last .1 .1 .1 .1 .1 .1 .1 .1 .0)) 0 (toZ w64 (c .if1 .out)) {i = 1} (omega arith)
 
 put-projection-requires : tie.Need-put-projection-requires
 put-projection-requires c κs =
-    let s = c .before .before .before .before .before .before .before .before .before .before .before .before .before .before in
+    let s = c .before .before .before .before .before .before .before .before .before .before .before .before .before .before .before in
     let y = c .before .before .before .before .before .before .judge in
-    let l = laid-long (s .args .file .now) (s .args .fields .now) (s .args .rules .now) (s .args .enables .now) (s .args .checks .now) (s .args .due .now) (s .args .raw .now) (s .pre .0) (s .args .out .now) (s .pre .4) (y .last .1 .1 .1 .1 .1 .1 .1 .0) (y .ensures .0) in
+    let l = laid-long (s .args .file .now) (s .args .fields .now) (s .args .rules .now) (s .args .enables .now) (s .args .checks .now) (s .args .due .now) (s .args .raw .now) (s .pre .0) (s .args .out .now) (s .pre .4) (y .last .1 .1 .1 .1 .1 .1 .1 .1 .0) (y .ensures .0) in
     let w = s .pre .4 in
     rw (length-set _ 1 _, length-set _ 0 _) (omega arith)
 
 same-length : tie.Need-same-length
 same-length c =
-    let s = c .before .before .before .before .before .before .before .before .before .before .before .before .before .before .before .before in
+    let s = c .before .before .before .before .before .before .before .before .before .before .before .before .before .before .before .before .before in
     let y = c .before .before .before .before .before .before .before .before .judge in
-    let laid = putMid 4 (length (s .args .out .now) - 4) (s .args .out .now) (y .last .1 .1 .1 .1 .1 .1 .1 .0) in
+    let laid = putMid 4 (length (s .args .out .now) - 4) (s .args .out .now) (y .last .1 .1 .1 .1 .1 .1 .1 .1 .0) in
     let ok = toZ w64 (c .before .before .before .if1 .out) in
-    c .before .put-projection .kept .0 ∙ length-set (set laid 0 ok) 1 (toZ w64 (y .result)) ∙ length-set laid 0 ok ∙ laid-long (s .args .file .now) (s .args .fields .now) (s .args .rules .now) (s .args .enables .now) (s .args .checks .now) (s .args .due .now) (s .args .raw .now) (s .pre .0) (s .args .out .now) (s .pre .4) (y .last .1 .1 .1 .1 .1 .1 .1 .0) (y .ensures .0)
+    c .before .put-projection .kept .0 ∙ length-set (set laid 0 ok) 1 (toZ w64 (y .result)) ∙ length-set laid 0 ok ∙ laid-long (s .args .file .now) (s .args .fields .now) (s .args .rules .now) (s .args .enables .now) (s .args .checks .now) (s .args .due .now) (s .args .raw .now) (s .pre .0) (s .args .out .now) (s .pre .4) (y .last .1 .1 .1 .1 .1 .1 .1 .1 .0) (y .ensures .0)
 
 returns : tie.Need-returns
 returns c =
-    let s = c .before .before .before .before .before .before .before .before .before .before .before .before .before .before .before .before in
+    let s = c .before .before .before .before .before .before .before .before .before .before .before .before .before .before .before .before .before in
     let y = c .before .before .before .before .before .before .before .before .judge in
-    let row = y .last .1 .1 .1 .1 .1 .1 .1 .0 in
+    let row = y .last .1 .1 .1 .1 .1 .1 .1 .1 .0 in
     let p = c .before .before .before .before .projection in
     laid-words (s .args .file .now) (s .args .fields .now) (s .args .rules .now) (s .args .enables .now) (s .args .checks .now) (s .args .due .now) (s .args .raw .now) (s .pre .0) (s .args .out .now) (s .pre .4) row (y .ensures .0) (s .args .projector) (y .result) (asProjection (p .result)) (c .before .put-projection .last .0) (toZ w64 (c .before .before .before .if1 .out)) (toZ w64 (y .result)) (s .pre .3) (y .ensures .1)
     (p .ensures ∙ ap (λ (r : List ℤ). ifPassed (y .result) (projectOf (groupIn (s .args .file .now) (s .args .projector) (length (s .args .file .now) / 32)) r)) (laid-part (s .args .file .now) (s .args .fields .now) (s .args .rules .now) (s .args .enables .now) (s .args .checks .now) (s .args .due .now) (s .args .raw .now) (s .pre .0) (s .args .out .now) (s .pre .4) row (y .ensures .0)))

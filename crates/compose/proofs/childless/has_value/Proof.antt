@@ -14,7 +14,7 @@ use mir.Val.{ofZ}
 use Rattle.lists.specs.Integers.{elemZ, eqZ}
 use Rattle.lists.proofs.Tests.{eqb-no, eqb-yes}
 use Rattle.lists.proofs.Words.{eq-bits}
-use Rattle.compose.proofs.Tabled.{eqZ-sym}
+use Rattle.registry.proofs.Looked.{eqZ-sym}
 use Rattle.compose.proofs.childless.has_value.Statement.{statement}
 use Rattle.compose.proofs.childless.has_value.Tie as tie
 

@@ -18,7 +18,7 @@ with-kinds-requires : tie.Need-with-kinds-requires
 with-kinds-requires c κs =
     let s = c .before .before .before .before in
     let n = kinds-few 20 22 (s .args .file .now) (s .args .heads .now) (s .pre .1) in
-    (s .pre .0, omega arith)
+    (s .pre .0, omega arith, s .pre .1)
 
 enum-told-2 : tie.Need-enum-told-2
 enum-told-2 c = search needs
@@ -27,7 +27,7 @@ with-kinds-requires-2 : tie.Need-with-kinds-requires-2
 with-kinds-requires-2 c κs =
     let s = c .before .before .before .before in
     let n = kinds-few 20 20 (s .args .file .now) (s .args .heads .now) (s .pre .1) in
-    (s .pre .0, omega arith)
+    (s .pre .0, omega arith, s .pre .1)
 
 -- masks and sets fit
 room : (c : tie.After-with-kinds2) → c .with-kinds2 .result .count + countIf (codeIs 22 22) (groupsIn (c .before .before .before .before .before .args .file .now) (c .before .before .before .before .before .args .heads .now)) ≤ 256
@@ -38,7 +38,7 @@ room c =
     omega arith
 
 with-kinds-requires-3 : tie.Need-with-kinds-requires-3
-with-kinds-requires-3 c κs = (c .before .before .before .before .before .pre .0, room c)
+with-kinds-requires-3 c κs = (c .before .before .before .before .before .pre .0, room c, c .before .before .before .before .before .pre .1)
 
 returns : tie.Need-returns
 returns c =

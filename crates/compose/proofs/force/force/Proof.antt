@@ -28,11 +28,11 @@ abbrev μ-loop : tie.MeasureT-loop
 loop-holds : tie.Need-loop-holds Inv-loop μ-loop
 loop-holds c = (omega arith, refl, refl, refl)
 
-mul-k : tie.Need-mul-k Inv-loop μ-loop
-mul-k c = search needs
-
 shared-slice-read-k : tie.Need-shared-slice-read-k Inv-loop μ-loop
 shared-slice-read-k c = search needs
+
+cast-k : tie.Need-cast-k Inv-loop μ-loop
+cast-k c = let k = c .before .before .before .before .before .before .pre (c .before .before .loop .j) (omega arith) .0 in record { fits = omega arith }
 
 mul-force-by : tie.Need-mul-force-by Inv-loop μ-loop
 mul-force-by c = let k = c .before .before .before .before .before .before .pre (c .before .before .loop .j) (omega arith) .0 in omega arith
@@ -87,8 +87,8 @@ force-spec =
     Inv-loop
     μ-loop
     loop-holds
-    mul-k
     shared-slice-read-k
+    cast-k
     mul-force-by
     shared-slice-read-force-by
     add-force-by

@@ -1,11 +1,14 @@
 -- `compose::force::with_kinds` meets its contract. The invariant: the numbers chosen so far, and those of the groups left.
 use mathlib.Core.Bool.{_||_}
+use mathlib.Core.List.{List}
 use mathlib.Core.Logic.{inl, inr, ⊎-elim}
 use mathlib.Core.Path.{_∙_, _≡_, ap, subst, sym}
 use Prim.Native.Nat.{_+_, _-_, _<_, _≤_, suc, ℕ}
 use native.Mathlib.Omega.{arith}
 use lib.Dec.{eqb}
 use lib.ListN.{getD, length}
+use mir.Syntax.{w8}
+use mir.Val.{Fits}
 use borrow.Author.Needs.{needs}
 use Rattle.registry.specs.Code.{groupIn}
 use Rattle.compose.specs.Code.{codeIs}
@@ -58,8 +61,15 @@ code-at-requires c κs =
 sub-numbers : tie.Need-sub-numbers Inv-loop μ-loop
 sub-numbers c = c .before .before .before .before .loop .inv .0
 
-mul-numbers : tie.Need-mul-numbers Inv-loop μ-loop
-mul-numbers c = let r = room c in omega arith
+-- the number of a head is a byte, of at most 256 heads
+byte : (heads : List ℕ) (k : ℕ) → 1 ≤ k → k < length heads → length heads ≤ 257 → Fits w8 (k - 1)
+byte heads k some more few = record { fits = omega arith }
+
+cast-numbers : tie.Need-cast-numbers Inv-loop μ-loop
+cast-numbers c =
+    let s = c .before .before .before .before .before .before .before .before in
+    let l = c .before .before .before .before .loop in
+    byte (s .args .heads .now) (l .k) (l .inv .0) (omega arith) (s .pre .2)
 
 array-write-numbers : tie.Need-array-write-numbers Inv-loop μ-loop
 array-write-numbers c = room c
@@ -105,7 +115,7 @@ with-kinds-spec =
     shared-slice-read-code-at
     code-at-requires
     sub-numbers
-    mul-numbers
+    cast-numbers
     array-write-numbers
     add-count
     add-k

@@ -14,12 +14,12 @@ failing-constraint-requires c κs = search needs
 
 returns : tie.Need-returns
 returns c =
-    let s = c .before .before .before .before .before in
+    let s = c .before .before .before .before .before .before in
     ap (behind (length (s .args .row .now))) (sym (c .if1 .taken) ∙ c .before .failing-constraint .ensures)
 
 add-result : tie.Need-add-result
 add-result c =
-    let s = c .before .before .before .before .before in
+    let s = c .before .before .before .before .before .before in
     let few = s .pre .1 in
     let short = s .pre .2 in
     let k = chosen-below (holdsAt (s .args .file .now) (s .args .heads .now) (s .args .row .now)) (length (s .args .heads .now)) (s .args .chosen .now) (λ j l. s .pre .0 j l .1) in
@@ -27,7 +27,7 @@ add-result c =
 
 returns-2 : tie.Need-returns-2
 returns-2 c =
-    let s = c .before .before .before .before .before in
+    let s = c .before .before .before .before .before .before in
     behind-some (length (s .args .row .now)) (c .before .failing-constraint .result) (c .if1 .left) ∙ ap (behind (length (s .args .row .now))) (c .before .failing-constraint .ensures)
 
 pub constraint-place-spec : {M : Type 1} → statement M

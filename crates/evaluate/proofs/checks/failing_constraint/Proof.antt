@@ -12,32 +12,32 @@ use Rattle.evaluate.proofs.checks.failing_constraint.Statement.{stateme
 use Rattle.evaluate.proofs.checks.failing_constraint.Tie as tie
 
 abbrev Inv-loop : tie.InvT-loop
-Inv-loop file heads chosen row j₀ j = (j ≤ length chosen) × (firstChosen (holdsAt file heads row) chosen ≡ firstChosen (holdsAt file heads row) (drop j chosen))
+Inv-loop file heads chosen index row j₀ j = (j ≤ length chosen) × (firstChosen (holdsAt file heads row) chosen ≡ firstChosen (holdsAt file heads row) (drop j chosen))
 
 abbrev μ-loop : tie.MeasureT-loop
-μ-loop file heads chosen row j₀ j = length chosen - j
+μ-loop file heads chosen index row j₀ j = length chosen - j
 
 -- the number chosen is of a head
 number : (c : tie.In-loop Inv-loop μ-loop)
-    → suc (getD (c .before .before .before .before .before .args .chosen .now) (c .before .loop .j) 0) < length (c .before .before .before .before .before .args .heads .now)
-number c = c .before .before .before .before .before .pre (c .before .loop .j) (omega arith) .1
+    → suc (getD (c .before .before .before .before .before .before .args .chosen .now) (c .before .loop .j) 0) < length (c .before .before .before .before .before .before .args .heads .now)
+number c = c .before .before .before .before .before .before .pre .0 (c .before .loop .j) (omega arith) .1
 
 -- the answer of its check
 tested : (c : tie.After-check Inv-loop μ-loop)
-    → holdsAt (c .before .before .before .before .before .before .before .before .before .args .file .now) (c .before .before .before .before .before .before .before .before .before .args .heads .now) (c .before .before .before .before .before .before .before .before .before .args .row .now) (getD (c .before .before .before .before .before .before .before .before .before .args .chosen .now) (c .before .before .before .before .before .loop .j) 0)
+    → holdsAt (c .before .before .before .before .before .before .before .before .before .before .args .file .now) (c .before .before .before .before .before .before .before .before .before .before .args .heads .now) (c .before .before .before .before .before .before .before .before .before .before .args .row .now) (getD (c .before .before .before .before .before .before .before .before .before .before .args .chosen .now) (c .before .before .before .before .before .loop .j) 0)
     ≡ c .check .result
 tested c =
-    let s = c .before .before .before .before .before .before .before .before .before in
+    let s = c .before .before .before .before .before .before .before .before .before .before in
     sym (rw (add-one (getD (s .args .chosen .now) (c .before .before .before .before .before .loop .j) 0)) at (c .check .ensures))
 
 loop-holds : tie.Need-loop-holds Inv-loop μ-loop
 loop-holds c = (omega arith, refl)
 
-mul-k : tie.Need-mul-k Inv-loop μ-loop
-mul-k c = search needs
-
 shared-slice-read-k : tie.Need-shared-slice-read-k Inv-loop μ-loop
 shared-slice-read-k c = search needs
+
+cast-k : tie.Need-cast-k Inv-loop μ-loop
+cast-k c = let k = number (c .before) in omega arith
 
 mul-check : tie.Need-mul-check Inv-loop μ-loop
 mul-check c = let k = number (c .before) in omega arith
@@ -56,16 +56,19 @@ shared-slice-read-check-2 c = let k = number (c .before .before .before) in omeg
 
 check-requires : tie.Need-check-requires Inv-loop μ-loop
 check-requires c κs =
-    let s = c .before .before .before .before .before .before .before .before in
+    let s = c .before .before .before .before .before .before .before .before .before in
     let l = c .before .before .before .before .loop in
-    rw (add-one (getD (s .args .chosen .now) (l .j) 0)) (s .pre (l .j) (omega arith) .0)
+    let h = s .pre .0 (l .j) (omega arith) .0 in
+    let i = h .inside in
+    let short = s .pre .1 in
+    rw (add-one (getD (s .args .chosen .now) (l .j) 0)) (h, omega arith, s .pre .2)
 
 add-result : tie.Need-add-result Inv-loop μ-loop
 add-result c = let k = number (c .before .before .before .before .before) in omega arith
 
 returns : tie.Need-returns Inv-loop μ-loop
 returns c =
-    let s = c .before .before .before .before .before .before .before .before .before .before in
+    let s = c .before .before .before .before .before .before .before .before .before .before .before in
     let l = c .before .before .before .before .before .before .loop in
     let k = getD (s .args .chosen .now) (l .j) 0 in
     let p = holdsAt (s .args .file .now) (s .args .heads .now) (s .args .row .now) in
@@ -79,14 +82,14 @@ loop-less c = search needs
 
 loop-again : tie.Need-loop-again Inv-loop μ-loop
 loop-again c =
-    let s = c .before .before .before .before .before .before .before .before .before .before in
+    let s = c .before .before .before .before .before .before .before .before .before .before .before in
     let l = c .before .before .before .before .before .before .loop in
     let p = holdsAt (s .args .file .now) (s .args .heads .now) (s .args .row .now) in
     (omega arith, l .inv .1 ∙ chosen-more p (s .args .chosen .now) (l .j) (omega arith) (tested (c .before) ∙ not-false _ (c .if1 .left)))
 
 returns-2 : tie.Need-returns-2 Inv-loop μ-loop
 returns-2 c =
-    let s = c .before .before .before .before .before in
+    let s = c .before .before .before .before .before .before in
     let l = c .before .loop in
     sym (l .inv .1 ∙ chosen-end (holdsAt (s .args .file .now) (s .args .heads .now) (s .args .row .now)) (s .args .chosen .now) (l .j) (omega arith))
 
@@ -97,8 +100,8 @@ failing-constraint-spec =
     Inv-loop
     μ-loop
     loop-holds
-    mul-k
     shared-slice-read-k
+    cast-k
     mul-check
     shared-slice-read-check
     add-check

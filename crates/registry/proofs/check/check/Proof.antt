@@ -18,14 +18,14 @@ use Rattle.spec.specs.Record.{Record, recordAt, recordsOf}
 use Rattle.spec.proofs.Fields.{kind-of}
 use Rattle.registry.specs.Check.{valueAt}
 use Rattle.registry.specs.Code.{maskIn, passes, testIn}
-use Rattle.registry.proofs.Constraints.{checked, of-cross, of-eq, of-neq, of-one, ofTwo}
+use Rattle.registry.proofs.Constraints.{checked, of-cross, of-eq, of-neq, of-one, of-oneof, ofTwo}
 use Rattle.registry.proofs.check.check.Statement.{statement}
 use Rattle.registry.proofs.check.check.Tie as tie
 
 -- the head, its members and the row
-module _ (c : tie.After-t122) where
+module _ (c : tie.After-t132) where
   abbrev s : tie.Start
-  s = c .before .before .before .before .before .before
+  s = c .before .before .before .before .before .before .before
 
   abbrev h : Record
   h = recordAt (s .args .file .now) (s .args .head)
@@ -43,17 +43,17 @@ module _ (c : tie.After-t122) where
   kind-read = ap kindOf (c .before .before .before .before .code-at .ensures) ∙ sym (kind-of (s .args .file .now) (s .args .head))
 
   a-read : held (getD row (c .before .before .before .a-at .result) (pos 0)) ≡ valueAt row (h .a)
-  a-read = toZ-ofZ w64 _ (sfits-of (c .before .t12 .given)) ∙ ap (λ (f : ℕ). getD row f (pos 0)) (c .before .before .before .a-at .ensures .0)
+  a-read = toZ-ofZ w64 _ (sfits-of (c .before .t13 .given)) ∙ ap (λ (f : ℕ). getD row f (pos 0)) (c .before .before .before .a-at .ensures .0)
 
   b-read : held (getD row (c .before .before .b-at .result) (pos 0)) ≡ valueAt row (h .b)
-  b-read = toZ-ofZ w64 _ (sfits-of (c .t122 .given)) ∙ ap (λ (f : ℕ). getD row f (pos 0)) (c .before .before .b-at .ensures .0)
+  b-read = toZ-ofZ w64 _ (sfits-of (c .t132 .given)) ∙ ap (λ (f : ℕ). getD row f (pos 0)) (c .before .before .b-at .ensures .0)
 
   -- the members, as the part of the file that holds them
   run-read : {rs : List Record} → rs ≡ take (s .args .end - (s .args .head + 1)) (drop (s .args .head + 1) (recordsOf (s .args .file .now))) → rs ≡ ms
   run-read e = e ∙ rw (add-one (s .args .head))
 
   mask-read : {x : ℤ} → x ≡ h .p → maskIn (kindOf code) x ≡ true
-  mask-read e = ap₂ maskIn kind-read e ∙ s .pre .mask
+  mask-read e = ap₂ maskIn kind-read e ∙ s .pre .0 .mask
 
   -- a test of one value
   one-read : {x y : ℤ} {rs : List Record} → x ≡ h .p → y ≡ h .q → rs ≡ ms → ofTwo (kindOf code) ≡ false
@@ -72,17 +72,17 @@ a-at-requires c κs = search needs
 b-at-requires : tie.Need-b-at-requires
 b-at-requires c κs = search needs
 
-mul-t10 : tie.Need-mul-t10
-mul-t10 c = search needs
+mul-t11 : tie.Need-mul-t11
+mul-t11 c = search needs
 
-shared-slice-copy-out-t12 : tie.Need-shared-slice-copy-out-t12
-shared-slice-copy-out-t12 c = search needs
+shared-slice-copy-out-t13 : tie.Need-shared-slice-copy-out-t13
+shared-slice-copy-out-t13 c = search needs
 
-mul-t10-2 : tie.Need-mul-t10-2
-mul-t10-2 c = search needs
+mul-t11-2 : tie.Need-mul-t11-2
+mul-t11-2 c = search needs
 
-shared-slice-copy-out-t12-2 : tie.Need-shared-slice-copy-out-t12-2
-shared-slice-copy-out-t12-2 c = search needs
+shared-slice-copy-out-t13-2 : tie.Need-shared-slice-copy-out-t13-2
+shared-slice-copy-out-t13-2 c = search needs
 
 same-requires : tie.Need-same-requires
 same-requires c κs = search needs
@@ -90,14 +90,11 @@ same-requires c κs = search needs
 same-requires-2 : tie.Need-same-requires-2
 same-requires-2 c κs = search needs
 
-add-part : tie.Need-add-part
-add-part c = search needs
+has-item-requires : tie.Need-has-item-requires
+has-item-requires c κs = search needs
 
-part-requires : tie.Need-part-requires
-part-requires c κs = search needs
-
-crosses-requires : tie.Need-crosses-requires
-crosses-requires c κs = search needs
+crosses-at-requires : tie.Need-crosses-at-requires
+crosses-at-requires c κs = search needs
 
 p-at-requires : tie.Need-p-at-requires
 p-at-requires c κs = search needs
@@ -105,11 +102,11 @@ p-at-requires c κs = search needs
 q-at-requires : tie.Need-q-at-requires
 q-at-requires c κs = search needs
 
-add-part-2 : tie.Need-add-part-2
-add-part-2 c = search needs
+add-part : tie.Need-add-part
+add-part c = search needs
 
-part-requires-2 : tie.Need-part-requires-2
-part-requires-2 c κs = search needs
+part-requires : tie.Need-part-requires
+part-requires c κs = search needs
 
 meets-requires : tie.Need-meets-requires
 meets-requires c κs = mask-read (c .before .before .before .before .before) (toZ-ofZ w64 _ (sfits-of (c .before .before .p-at .ok)) ∙ c .before .before .p-at .ensures)
@@ -120,11 +117,11 @@ p-at-requires-2 c κs = search needs
 q-at-requires-2 : tie.Need-q-at-requires-2
 q-at-requires-2 c κs = search needs
 
-add-part-3 : tie.Need-add-part-3
-add-part-3 c = search needs
+add-part-2 : tie.Need-add-part-2
+add-part-2 c = search needs
 
-part-requires-3 : tie.Need-part-requires-3
-part-requires-3 c κs = search needs
+part-requires-2 : tie.Need-part-requires-2
+part-requires-2 c κs = search needs
 
 meets-requires-2 : tie.Need-meets-requires-2
 meets-requires-2 c κs = mask-read (c .before .before .before .before .before .before) (toZ-ofZ w64 _ (sfits-of (c .before .before .p-at2 .ok)) ∙ c .before .before .p-at2 .ensures)
@@ -135,11 +132,11 @@ p-at-requires-3 c κs = search needs
 q-at-requires-3 : tie.Need-q-at-requires-3
 q-at-requires-3 c κs = search needs
 
-add-part-4 : tie.Need-add-part-4
-add-part-4 c = search needs
+add-part-3 : tie.Need-add-part-3
+add-part-3 c = search needs
 
-part-requires-4 : tie.Need-part-requires-4
-part-requires-4 c κs = search needs
+part-requires-3 : tie.Need-part-requires-3
+part-requires-3 c κs = search needs
 
 meets-requires-3 : tie.Need-meets-requires-3
 meets-requires-3 c κs = mask-read (c .before .before .before .before .before .before) (toZ-ofZ w64 _ (sfits-of (c .before .before .p-at3 .ok)) ∙ c .before .before .p-at3 .ensures)
@@ -159,31 +156,37 @@ returns-2 c =
 returns-3 : tie.Need-returns-3
 unfolding kindOf
 returns-3 c =
-    let t = c .before .before .before in
-    c .crosses .ensures ∙ rw (run-read t (c .before .part .ensures .1), a-read t, b-read t) (of-cross (row t) (h t) (ms t) ∙ ap (checked (row t) (h t) (ms t)) (sym (ap kindOf (c .before .before .match .keys3)) ∙ kind-read t))
+    let t = c .before .before in
+    c .has-item .ensures ∙ rw (a-read t) (of-oneof (row t) (h t) (ms t) ∙ ap (checked (row t) (h t) (ms t)) (sym (ap kindOf (c .before .match .keys3)) ∙ kind-read t))
 
 returns-4 : tie.Need-returns-4
 unfolding kindOf
 returns-4 c =
-    let t = c .before .before .before .before .before .before in
-    c .meets .ensures
-    ∙ one-read t (toZ-ofZ w64 _ (sfits-of (c .before .before .before .p-at .ok)) ∙ c .before .before .before .p-at .ensures) (toZ-ofZ w64 _ (sfits-of (c .before .before .q-at .ok)) ∙ c .before .before .q-at .ensures) (run-read t (c .before .part2 .ensures .1))
-    (in-range twoAt (λ n. false) 0 12 refl (code t) (omega arith) (omega arith))
+    let t = c .before .before in
+    c .crosses-at .ensures ∙ rw (a-read t, b-read t) (of-cross (row t) (h t) (ms t) ∙ ap (checked (row t) (h t) (ms t)) (sym (ap kindOf (c .before .match .keys4)) ∙ kind-read t))
 
 returns-5 : tie.Need-returns-5
 unfolding kindOf
 returns-5 c =
-    let t = c .before .before .before .before .before .before .before in
-    c .meets2 .ensures
-    ∙ one-read t (toZ-ofZ w64 _ (sfits-of (c .before .before .before .p-at2 .ok)) ∙ c .before .before .before .p-at2 .ensures) (toZ-ofZ w64 _ (sfits-of (c .before .before .q-at2 .ok)) ∙ c .before .before .q-at2 .ensures) (run-read t (c .before .part3 .ensures .1))
-    (in-range twoAt (λ n. false) 14 5 refl (code t) (omega arith) (omega arith))
+    let t = c .before .before .before .before .before .before in
+    c .meets .ensures
+    ∙ one-read t (toZ-ofZ w64 _ (sfits-of (c .before .before .before .p-at .ok)) ∙ c .before .before .before .p-at .ensures) (toZ-ofZ w64 _ (sfits-of (c .before .before .q-at .ok)) ∙ c .before .before .q-at .ensures) (run-read t (c .before .part .ensures .1))
+    (in-range twoAt (λ n. false) 0 12 refl (code t) (omega arith) (omega arith))
 
 returns-6 : tie.Need-returns-6
 unfolding kindOf
 returns-6 c =
     let t = c .before .before .before .before .before .before .before in
+    c .meets2 .ensures
+    ∙ one-read t (toZ-ofZ w64 _ (sfits-of (c .before .before .before .p-at2 .ok)) ∙ c .before .before .before .p-at2 .ensures) (toZ-ofZ w64 _ (sfits-of (c .before .before .q-at2 .ok)) ∙ c .before .before .q-at2 .ensures) (run-read t (c .before .part2 .ensures .1))
+    (in-range twoAt (λ n. false) 14 4 refl (code t) (omega arith) (omega arith))
+
+returns-7 : tie.Need-returns-7
+unfolding kindOf
+returns-7 c =
+    let t = c .before .before .before .before .before .before .before in
     c .meets3 .ensures
-    ∙ one-read t (toZ-ofZ w64 _ (sfits-of (c .before .before .before .p-at3 .ok)) ∙ c .before .before .before .p-at3 .ensures) (toZ-ofZ w64 _ (sfits-of (c .before .before .q-at3 .ok)) ∙ c .before .before .q-at3 .ensures) (run-read t (c .before .part4 .ensures .1))
+    ∙ one-read t (toZ-ofZ w64 _ (sfits-of (c .before .before .before .p-at3 .ok)) ∙ c .before .before .before .p-at3 .ensures) (toZ-ofZ w64 _ (sfits-of (c .before .before .q-at3 .ok)) ∙ c .before .before .q-at3 .ensures) (run-read t (c .before .part3 .ensures .1))
     (in-range twoAt (λ n. false) 20 236 refl (code t) (omega arith) (omega arith))
 
 pub check-spec : {M : Type 1} → statement M
@@ -193,33 +196,33 @@ check-spec =
     code-at-requires
     a-at-requires
     b-at-requires
-    mul-t10
-    shared-slice-copy-out-t12
-    mul-t10-2
-    shared-slice-copy-out-t12-2
+    mul-t11
+    shared-slice-copy-out-t13
+    mul-t11-2
+    shared-slice-copy-out-t13-2
     same-requires
     same-requires-2
-    add-part
-    part-requires
-    crosses-requires
+    has-item-requires
+    crosses-at-requires
     p-at-requires
     q-at-requires
-    add-part-2
-    part-requires-2
+    add-part
+    part-requires
     meets-requires
     p-at-requires-2
     q-at-requires-2
-    add-part-3
-    part-requires-3
+    add-part-2
+    part-requires-2
     meets-requires-2
     p-at-requires-3
     q-at-requires-3
-    add-part-4
-    part-requires-4
+    add-part-3
+    part-requires-3
     meets-requires-3
     returns
     returns-2
     returns-3
     returns-4
     returns-5
-    returns-6)
+    returns-6
+    returns-7)
