@@ -8,6 +8,7 @@ use bench_files::Timed;
 use common::reading::Engine;
 use common::{oracle, reading};
 use ev::classification::Classification;
+use ev::spec::VerificationSpec;
 use ev::verify::classifier::{Classify, NaiveClassifier};
 use ev::verify::evaluate::evaluate_structural;
 use ev::verify::registry::{ConstraintRegistry, ProjectorRegistry};
@@ -183,15 +184,19 @@ fn paged(engine: Engine, file: &[u8]) -> Measured {
     (counts, time)
 }
 
-/// The original has its specification and registries made before, and counts its verdicts.
-fn original(engine: Engine, file: &[u8]) -> Measured {
-    let rules = reading::judge(file).expect("refused");
-    let spec = oracle::specification(&rules);
+fn specification(file: &[u8]) -> VerificationSpec {
+    oracle::specification(&reading::judge(file).expect("refused"))
+}
+
+/// The original counts its verdicts. Its registries are made before, and its specification too unless it is read in the call.
+fn original(engine: Engine, file: &[u8], read: bool) -> Measured {
     let constraints = ConstraintRegistry::default();
     let projectors = ProjectorRegistry::default();
+    let ready = specification(file);
     let mut answer = [0usize; 4];
     let time = median(|| {
-        let spec = black_box(&spec);
+        let made = read.then(|| specification(black_box(file)));
+        let spec = black_box(made.as_ref().unwrap_or(&ready));
         let c: Classification = match engine {
             Engine::Structural => evaluate_structural(spec, &constraints, &projectors),
             Engine::Exhaustive => NaiveClassifier.classify(spec, &constraints, &projectors),
@@ -212,7 +217,8 @@ fn one(side: &str, engine: &str, name: &str) {
     let (answer, time) = match side {
         "count" => counted(engine, &timed.file),
         "page" => paged(engine, &timed.file),
-        _ => original(engine, &timed.file),
+        "read" => original(engine, &timed.file, true),
+        _ => original(engine, &timed.file, false),
     };
     let [total, emitted, passed, failed] = answer;
     println!("{total} {emitted} {passed} {failed} {time} {}", peak());
@@ -243,8 +249,8 @@ fn ask(side: &str, engine: &str, name: &str) -> Said {
 }
 
 fn table(only: Option<&str>) {
-    println!("| file | what | engine | verdicts | count ns/verdict | page ns/verdict | Rust ns/verdict | Rust : count | Rust : page | count peak MiB | page peak MiB | Rust peak MiB |");
-    println!("|---|---|---|---|---|---|---|---|---|---|---|---|");
+    println!("| file | what | engine | verdicts | count ns/verdict | page ns/verdict | Rust ns/verdict | Rust : count | Rust : page | Rust reading too : count | count peak MiB | page peak MiB | Rust peak MiB |");
+    println!("|---|---|---|---|---|---|---|---|---|---|---|---|---|");
     let wanted = |name: &str| only.is_none_or(|o| o.split(',').any(|n| n == name));
     for t in bench_files::all().iter().filter(|t| wanted(t.name)) {
         for (engine, word) in ENGINES {
@@ -260,6 +266,7 @@ fn line(t: &Timed, engine: &str) -> String {
     let mut sides = vec![ask("count", engine, t.name), ask("page", engine, t.name)];
     if t.original {
         sides.push(ask("original", engine, t.name));
+        sides.push(ask("read", engine, t.name));
     }
     if sides.iter().any(|s| s.counts != sides[0].counts) {
         let all: Vec<_> = sides.iter().map(|s| &s.counts).collect();
@@ -277,17 +284,18 @@ fn line(t: &Timed, engine: &str) -> String {
         }
         cells
     };
-    let ratio = |side: usize| match sides.get(2) {
+    let ratio = |rust: usize, side: usize| match sides.get(rust) {
         Some(rust) => format!(" {:.2} |", rust.time / sides[side].time),
         None => " |".to_string(),
     };
     format!(
-        "| {} | {} | {engine} | {emitted} |{}{}{}{}",
+        "| {} | {} | {engine} | {emitted} |{}{}{}{}{}",
         t.name,
         t.what,
         column(&|s| s.time / emitted),
-        ratio(0),
-        ratio(1),
+        ratio(2, 0),
+        ratio(2, 1),
+        ratio(3, 0),
         column(&|s| s.peak)
     )
 }

@@ -139,6 +139,32 @@ pub fn all() -> Vec<Timed> {
         m.map(0, 2, 50, 16, 200, 4096);
         m.sum()
     };
+    let no_room = {
+        let mut m = Maker::ranges(&[10, 300, 300]);
+        m.map(1, 2, 200, 4, 300, 1);
+        m.sum()
+    };
+    let items = {
+        let mut m = Maker::ranges(&[10_000]);
+        m.put(ONEOF, 0, 0, 0, 0);
+        for i in 0..1000 {
+            m.put(ITEM, 0, 0, i * 10, 0);
+        }
+        m.sum()
+    };
+    let axes = {
+        let mut m = Maker::ranges(&[100_000]);
+        m.put(DECOMPOSE, 0, 0, 0, -1);
+        for i in 0..12 {
+            m.put(AXIS, 2, 2 * i, 3, 0);
+        }
+        write(&m.0)
+    };
+    let one_left = {
+        let mut m = Maker::listed(&[1000], 1);
+        m.put(RANGE, 0, 0, 0, 0);
+        m.sum()
+    };
     let large = {
         let mut m = Maker::ranges(&[100, 100, 100, 100]);
         m.put(NEQ, 0, 1, 0, 0);
@@ -159,19 +185,17 @@ pub fn all() -> Vec<Timed> {
         timed("h1", "800 pairs, the child fastest", fastest),
         timed("h2", "one key with 800 pairs", one_key),
         timed("h3", "800 pairs, all multiples of 4096", multiples),
-        Timed {
-            exhaustive: false,
-            ..timed("h4", "h2 with the child fastest", one_key_fastest)
-        },
-        Timed {
-            exhaustive: false,
-            ..timed("h5", "h3 with the child fastest", multiples_fastest)
-        },
+        timed("h4", "h2 with the child fastest", one_key_fastest),
+        timed("h5", "h3 with the child fastest", multiples_fastest),
+        timed("h6", "800 pairs, no room for a table", no_room),
+        timed("j", "a oneof of 1,000 items on 10,000 values", items),
+        timed("k", "decompose with twelve axes", axes),
         timed(
             "i",
             "one verdict, the whole call",
             Maker::ranges(&[1]).sum(),
         ),
+        timed("l", "1,000 listed values, one is left", one_left),
         Timed {
             name: "g",
             what: "a total of 10^8",

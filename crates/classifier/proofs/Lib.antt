@@ -4,6 +4,8 @@ pub mod Room
 pub mod Placing
 pub mod Walked
 pub mod Tallying
+pub mod Running
+pub mod Wide
 pub mod Answered
 pub mod Wording
 pub mod Starts

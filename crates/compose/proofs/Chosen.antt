@@ -23,6 +23,7 @@ use Rattle.registry.specs.Code.{groupIn}
 use Rattle.compose.specs.Code.{ChosenFrom, KindAt, chosenIn, codeIs, constraintsIn, enablesOf, groupsFrom, groupsIn, isEnable}
 use Rattle.compose.specs.Force.{enables, forcingOrder}
 use Rattle.compose.specs.Tuples.{exhaustive, structural}
+use Rattle.compose.proofs.Narrowing.{rest-turn}
 use Rattle.compose.proofs.Positions.{groups-end, groups-turn}
 
 length-from : (file : List ℕ) (head : ℕ) (rest : List ℕ) → length (groupsFrom file head rest) ≡ length rest
@@ -49,21 +50,23 @@ groups-coded file (head ∷ rest) = from-coded file head rest
 module _ (file heads : List ℕ) (a b : ℕ) (old : List ℕ) (before : ℕ) where
   -- The groups before number j were looked at.
   pub record Picked (numbers : List ℕ) (count j : ℕ) : Type 0 where
-    pub long : length numbers ≡ 256
+    pub long : length numbers ≡ length old
     pub more : before ≤ count
     pub counted : count + countIf (codeIs a b) (groupsIn file (drop j heads)) ≡ before + countIf (codeIs a b) (groupsIn file heads)
     pub chosen : chosenIn file heads (take count numbers) ++ concatMap constraintOf (filter (codeIs a b) (groupsIn file (drop j heads))) ≡ chosenIn file heads (take before old) ++ concatMap constraintOf (filter (codeIs a b) (groupsIn file heads))
     pub kept : take before numbers ≡ take before old
     pub kinds : ChosenFrom file heads before a b (take count numbers)
+    pub rest : drop count numbers ≡ drop count old
 
-  pub picked-start : length old ≡ 256 → before ≤ 256 → Picked old before 0
-  picked-start l h = record {
-    long = l;
+  pub picked-start : before ≤ length old → Picked old before 0
+  picked-start h = record {
+    long = refl;
     more = omega arith;
     counted = refl;
     chosen = refl;
     kept = refl;
-    kinds = λ i p q. absurd (let e = length-take-le before old (omega arith) in omega arith);
+    kinds = λ i p q. absurd (let e = length-take-le before old h in omega arith);
+    rest = refl;
   }
 
   module _ (numbers : List ℕ) (count j : ℕ) (p : Picked numbers count j) where
@@ -80,13 +83,14 @@ module _ (file heads : List ℕ) (a b : ℕ) (old : List ℕ) (before : ℕ) whe
           chosen = ap (λ gs. chosenIn file heads (take count numbers) ++ concatMap constraintOf gs) (sym q) ∙ p .chosen;
           kept = p .kept;
           kinds = p .kinds;
+          rest = p .rest;
         }
 
-    module _ (room : before + countIf (codeIs a b) (groupsIn file heads) ≤ 256) (h : suc j < length heads) (e : codeIs a b (groupIn file (getD heads j 0) (getD heads (suc j) 0)) ≡ true) where
+    module _ (room : before + countIf (codeIs a b) (groupsIn file heads) ≤ length old) (h : suc j < length heads) (e : codeIs a b (groupIn file (getD heads j 0) (getD heads (suc j) 0)) ≡ true) where
       one-more : countIf (codeIs a b) (groupsIn file (drop j heads)) ≡ suc (countIf (codeIs a b) (groupsIn file (drop (suc j) heads)))
       one-more = rw (groups-turn file heads j h, e)
 
-      pub picked-room : count < 256
+      pub picked-room : count < length old
       picked-room = let n = one-more in let m = p .counted in omega arith
 
       -- A head of kind a or b.
@@ -98,6 +102,7 @@ module _ (file heads : List ℕ) (a b : ℕ) (old : List ℕ) (before : ℕ) whe
         chosen = chosen-more;
         kept = take-set-le before numbers count j (p .more) ∙ p .kept;
         kinds = subst (ChosenFrom file heads before a b) (sym taken) kinds-more;
+        rest = rest-turn old numbers count (p .rest) j;
       }
         where
           inside : count < length numbers
@@ -139,7 +144,7 @@ module _ (file heads : List ℕ) (a b : ℕ) (old : List ℕ) (before : ℕ) whe
                   subst (KindAt file heads a b) (sym (ap (λ (x : ℕ). getD (take count numbers ++ (j ∷ [])) x 0) z ∙ getD-append-seam (take count numbers) j [] 0)) (record { number = h; code = e })
 
     -- One more head was looked at: t is whether it is of kind a or b.
-    pub picked-turn : before + countIf (codeIs a b) (groupsIn file heads) ≤ 256 → suc j < length heads → (numbers′ : List ℕ) (count′ : ℕ) (t : Bool) → codeIs a b (groupIn file (getD heads j 0) (getD heads (suc j) 0)) ≡ t
+    pub picked-turn : before + countIf (codeIs a b) (groupsIn file heads) ≤ length old → suc j < length heads → (numbers′ : List ℕ) (count′ : ℕ) (t : Bool) → codeIs a b (groupIn file (getD heads j 0) (getD heads (suc j) 0)) ≡ t
         → ((t ≡ true) × (numbers′ ≡ set numbers count j) × (count′ ≡ count + 1)) ⊎ ((t ≡ false) × (numbers′ ≡ numbers) × (count′ ≡ count)) → Picked numbers′ count′ (suc j)
     picked-turn room h numbers′ count′ t e (inl (y, n, m)) = rw (n, m) (picked-yes room h (e ∙ y))
     picked-turn room h numbers′ count′ t e (inr (y, n, m)) = rw (n, m) (picked-no h (e ∙ y))

@@ -28,3 +28,4 @@ pub mod Prepared
 pub mod Rowed
 pub mod Tabled
 pub mod Usual
+pub mod Ascending

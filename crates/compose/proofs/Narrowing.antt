@@ -2,7 +2,7 @@
 use mathlib.Core.Bool.{Bool, _&&_, _||_, cond, false, false≢true, true}
 use mathlib.Core.List.{List, [], _++_, _∷_, append-assoc, append-nil, foldl, map}
 use mathlib.Core.Option.{Option, some}
-use mathlib.Core.Path.{_∙_, _≡_, ap, ap₂, refl, sym}
+use mathlib.Core.Path.{_∙_, _≡_, ap, ap₂, refl, subst, sym}
 use Prim.Native.Nat.{_+_, _-_, _<_, _≤_, suc, ℕ}
 use native.Mathlib.Numerals.{add-one}
 use native.Mathlib.Omega.{arith}
@@ -10,10 +10,11 @@ use lib.Dec.{eqb}
 use lib.IntN.{natAbs, pos, ℤ}
 use lib.ListN.{drop, drop-of-length-le, getD, length, length-append, length-set, set, take, take-append-drop}
 use lib.Seq.{append-snoc, drop-cons, drop-drop, drop-length, drop-set-lt, getD-drop, length-take-le, take-all, take-at, take-suc, take-suc-set}
+use Rattle.lists.specs.Integers.{elemZ}
 use Rattle.lists.specs.Lists.{any, consIf, filter, orElse, over}
 use Rattle.lists.proofs.All.{none-any}
 use Rattle.lists.proofs.Lists.{filter-none}
-use Rattle.spec.specs.Code.{asRecord}
+use Rattle.spec.specs.Code.{asRecord, psOf}
 use Rattle.spec.specs.Kind.{ConstraintKind, Kind, bitmask, constraint, cross, enableMask, enableSet, eq, even, field, ge, gt, kindOf, le, lt, member, neq, oneof, projector, range, unknown}
 use Rattle.spec.specs.Record.{Record, constraintBy, constraintIn, constraintOf, group, recordAt, recordsOf}
 use Rattle.spec.specs.Spec.{Bitmask, Even, Ge, Gt, Le, Lt, Oneof, Range, Test}
@@ -25,6 +26,10 @@ use Rattle.compose.specs.Code.{keptBy, narrowsKind, narrowsTest}
 -- The test of head h with the members given.
 abbrev pub testOf : code.Record → List ℕ → ℤ → Bool
 testOf h run = passes (testIn (kindOf (h .code)) (h .p) (h .q) (recordsOf run))
+
+-- A value is among the items of a oneof, the members given.
+abbrev pub isItem : List ℕ → ℤ → Bool
+isItem run v = elemZ v (psOf (recordsOf run))
 
 -- ---- the values from i on
 module _ (l : List ℤ) (i : ℕ) where
@@ -47,6 +52,17 @@ module _ (l : List ℤ) (i : ℕ) where
     keep-past : i < length l → p (getD l i (pos 0)) ≡ false → filter p (drop i l) ≡ filter p (drop (i + 1) l)
     keep-past h e = rw (value-from h) (rw e)
 
+-- ---- l was written from the front, w values, and behind them stands what stood there in l₀
+module _ {A : Type 0} (l₀ l : List A) (w : ℕ) (rest : drop w l ≡ drop w l₀) where
+  pub rest-more : (k : ℕ) → drop (w + k) l ≡ drop (w + k) l₀
+  rest-more k = sym (drop-drop k w l) ∙ ap (drop k) rest ∙ drop-drop k w l₀
+
+  pub rest-turn : (x : A) → drop (w + 1) (set l w x) ≡ drop (w + 1) l₀
+  rest-turn x = drop-set-lt (w + 1) l w x (omega arith) ∙ rest-more 1
+
+  pub over-end : (new : List A) → take w l ≡ new → w ≡ length new → l ≡ over new l₀
+  over-end new t e = sym (take-append-drop w l) ∙ ap₂ (λ (a b : List A). a ++ b) t (rest ∙ ap (λ (n : ℕ). drop n l₀) e)
+
 -- ---- of the first i values of l₀ those that pass were moved to the front of l: w of them
 pub record Moved (p : ℤ → Bool) (l₀ l : List ℤ) (w i : ℕ) : Type 0 where
   pub behind : w ≤ i
@@ -57,9 +73,6 @@ pub record Moved (p : ℤ → Bool) (l₀ l : List ℤ) (w i : ℕ) : Type 0 whe
 
 pub moved-none : (p : ℤ → Bool) (l : List ℤ) → Moved p l l 0 0
 moved-none p l = record { behind = omega arith; inside = omega arith; long = refl; rest = refl; kept = refl }
-
-drop-more : (k n : ℕ) (l l₀ : List ℤ) → drop n l ≡ drop n l₀ → drop (n + k) l ≡ drop (n + k) l₀
-drop-more k n l l₀ e = sym (drop-drop k n l) ∙ ap (drop k) e ∙ drop-drop k n l₀
 
 module _ (p : ℤ → Bool) (l₀ l : List ℤ) (w i : ℕ) (m : Moved p l₀ l w i) where
   pub moved-read : getD l i (pos 0) ≡ getD l₀ i (pos 0)
@@ -77,7 +90,7 @@ module _ (p : ℤ → Bool) (l₀ l : List ℤ) (w i : ℕ) (m : Moved p l₀ l 
         behind = omega arith;
         inside = omega arith;
         long = length-set l w x ∙ m .long;
-        rest = drop-set-lt (w + 1) l w x (omega arith) ∙ drop-more 1 w l l₀ (m .rest);
+        rest = rest-turn l₀ l w (m .rest) x;
         kept = ap (λ (z : List ℤ). z ++ filter p (drop (i + 1) l₀)) (ap (λ (n : ℕ). take n (set l w x)) (add-one w) ∙ take-suc-set l w x (omega arith)) ∙ append-snoc (take w l) x _ ∙ ap (λ (z : List ℤ). take w l ++ z) (sym (keep-here l₀ i p h e)) ∙ m .kept;
       }
 
@@ -93,7 +106,7 @@ module _ (p : ℤ → Bool) (l₀ l : List ℤ) (w i : ℕ) (m : Moved p l₀ l 
   moved-count h = let b = m .behind in let s = m .long in let n = m .inside in sym (length-take-le w l (omega arith)) ∙ ap length (moved-front h)
 
   pub moved-end : length l₀ ≤ i → l ≡ over (filter p l₀) l₀
-  moved-end h = sym (take-append-drop w l) ∙ ap₂ (λ (a b : List ℤ). a ++ b) (moved-front h) (m .rest ∙ ap (λ (n : ℕ). drop n l₀) (moved-count h))
+  moved-end h = over-end l₀ l w (m .rest) (filter p l₀) (moved-front h) (moved-count h)
 
 -- ---- a filter that would keep none is passed over
 module _ (p : ℤ → Bool) where
@@ -118,6 +131,34 @@ module _ (t : Option Test) (l : List ℤ) where
 
   pub kept-none : any (passes t) l ≡ false → keptBy t l ≡ l
   kept-none = or-else-none (passes t) l l
+
+-- ---- the same by how many the filter kept
+none-kept : (new l : List ℤ) → length new ≡ 0 → (orElse new l ≡ l) × (over new l ≡ l)
+none-kept [] l e = (refl, refl)
+none-kept (x ∷ xs) l e = absurd (omega arith)
+
+some-kept : (new l : List ℤ) → ¬ (length new ≡ 0) → orElse new l ≡ new
+some-kept [] l n = absurd (n refl)
+some-kept (x ∷ xs) l n = refl
+
+-- ---- a oneof by its items: left is l with the values that are among them moved to the front, kept of them
+module _ (code : ℕ) (is-oneof : code ≡ 18) (p q : ℤ) (run : List ℕ) (l left : List ℤ) (kept : ℕ) (count : kept ≡ length (filter (isItem run) l)) (front : left ≡ over (filter (isItem run) l) l) where
+  abbrev narrowed : List ℤ
+  narrowed = keptBy (testIn (kindOf code) p q (recordsOf run)) l
+
+  items-kept : narrowed ≡ orElse (filter (isItem run) l) l
+  unfolding kindOf
+  items-kept = rw is-oneof
+
+  pub found-none : kept ≡ 0 → (length left ≡ length narrowed) × (left ≡ over narrowed l)
+  found-none z =
+      let none = none-kept (filter (isItem run) l) l (sym count ∙ z) in
+      subst (λ (m : List ℤ). (length m ≡ length narrowed) × (m ≡ over narrowed l)) (sym (front ∙ none .1)) (over-same narrowed l (items-kept ∙ none .0))
+
+  pub found-some : ¬ (kept ≡ 0) → (kept ≡ length narrowed) × (left ≡ over narrowed l)
+  found-some n =
+      let e = sym (items-kept ∙ some-kept (filter (isItem run) l) l (λ z. n (count ∙ z))) in
+      (count ∙ ap length e, front ∙ ap (λ (m : List ℤ). over m l) e)
 
 -- ---- by kind
 narrow-if : (narrowing same : Bool) (t : Test) (l : List ℤ) → narrowIf (same && narrowing) t l ≡ cond (narrowing && same) (keptBy (some t) l) l

@@ -17,6 +17,7 @@ use Rattle.spec.proofs.Fields.{length-records, records-from}
 use Rattle.spec.proofs.Runs.{run-end, run-front, run-inside, run-more, run-stop, runLength}
 use Rattle.registry.specs.Code.{groupIn}
 use Rattle.compose.specs.Code.{Rising, groupsFrom, groupsIn}
+use Rattle.compose.proofs.Narrowing.{rest-turn}
 
 -- The groups from number j on: a turn, and the end.
 pub groups-turn : (file heads : List ℕ) (j : ℕ) → suc j < length heads → groupsIn file (drop j heads) ≡ groupIn file (getD heads j 0) (getD heads (suc j) 0) ∷ groupsIn file (drop (suc j) heads)
@@ -78,24 +79,25 @@ rising-more file l a b r lt le k h = go (decLt (suc k) (length xs))
         let last : length xs ≡ suc k = omega (arith, length-append xs (b ∷ [])) in
         rw (getD-left xs (b ∷ []) 0 k refl (omega arith) ∙ getD-at l a [] 0 k (omega arith), getD-at xs b [] 0 (suc k) last) (lt, le)
 
--- The heads before record i stand in front, count of them, and the members at i go to the last of them.
-pub record Headed (file at : List ℕ) (count i : ℕ) : Type 0 where
+-- The heads before record i stand in front, count of them, and the members at i go to the last of them; behind the heads stands what stood there in at₀.
+pub record Headed (file at₀ at : List ℕ) (count i : ℕ) : Type 0 where
   pub inside : i ≤ length file / 32
-  pub wide : length at ≡ 290
+  pub wide : length at ≡ length at₀
   pub counted : count + length (groups (drop i (recordsOf file))) ≡ length (groups (recordsOf file))
   pub whole : groupsIn file (take count at ++ ((i + runLength file i) ∷ [])) ++ groups (drop i (recordsOf file)) ≡ groups (recordsOf file)
   pub rising : Rising file (take count at ++ ((i + runLength file i) ∷ []))
+  pub rest : drop count at ≡ drop count at₀
 
-pub headed-none : (file at : List ℕ) → length at ≡ 290 → Headed file at 0 0
-headed-none file at e = record { inside = omega arith; wide = e; counted = zero-add (length (groups (recordsOf file))); whole = refl; rising = λ k l. absurd (omega arith) }
+pub headed-none : (file at : List ℕ) → Headed file at at 0 0
+headed-none file at = record { inside = omega arith; wide = refl; counted = zero-add (length (groups (recordsOf file))); whole = refl; rising = λ k l. absurd (omega arith); rest = refl }
 
-module _ (file at : List ℕ) (count i : ℕ) (h : Headed file at count i) where
+module _ (file at₀ at : List ℕ) (count i : ℕ) (h : Headed file at₀ at count i) where
   -- the list with one position more
-  put-head : (p : ℕ) → count < 290 → take (count + 1) (set at count p) ≡ take count at ++ (p ∷ [])
+  put-head : (p : ℕ) → count < length at₀ → take (count + 1) (set at count p) ≡ take count at ++ (p ∷ [])
   put-head p l = let w = h .wide in ap (λ (n : ℕ). take n (set at count p)) (add-one count) ∙ take-suc-set at count p (omega arith)
 
   module _ (l : i < length file / 32) where
-    pub headed-member : isMember (recordAt file i .kind) ≡ true → Headed file at count (i + 1)
+    pub headed-member : isMember (recordAt file i .kind) ≡ true → Headed file at₀ at count (i + 1)
     headed-member t =
         let rest : groups (drop i (recordsOf file)) ≡ groups (drop (i + 1) (recordsOf file)) = rw (add-one, records-from file i l) (rw t) in
         let next : i + runLength file i ≡ i + 1 + runLength file (i + 1) = omega (arith, run-more file i l t) in
@@ -105,9 +107,10 @@ module _ (file at : List ℕ) (count i : ℕ) (h : Headed file at count i) where
           counted = ap (λ (gs : List Group). count + length gs) (sym rest) ∙ h .counted;
           whole = ap₂ (λ (p : ℕ) (gs : List Group). groupsIn file (take count at ++ (p ∷ [])) ++ gs) (sym next) (sym rest) ∙ h .whole;
           rising = subst (λ (p : ℕ). Rising file (take count at ++ (p ∷ []))) next (h .rising);
+          rest = h .rest;
         }
 
-    pub headed-head : isMember (recordAt file i .kind) ≡ false → length (groups (recordsOf file)) ≤ 289 → Headed file (set at count i) (count + 1) (i + 1)
+    pub headed-head : isMember (recordAt file i .kind) ≡ false → length (groups (recordsOf file)) < length at₀ → Headed file at₀ (set at count i) (count + 1) (i + 1)
     headed-head t few =
         let run = memberRun (drop (suc i) (recordsOf file)) in
         let rest : groups (drop i (recordsOf file)) ≡ group (recordAt file i) run ∷ groups (drop (i + 1) (recordsOf file)) = rw (add-one, records-from file i l) (rw t) in
@@ -127,6 +130,7 @@ module _ (file at : List ℕ) (count i : ℕ) (h : Headed file at count i) where
               ∙ ap₂ (λ (p : ℕ) (g : Group). groupsIn file (take count at ++ (p ∷ [])) ++ (g ∷ groups (drop (i + 1) (recordsOf file)))) (sym at-i) here
               ∙ ap (λ (gs : List Group). groupsIn file (take count at ++ ((i + runLength file i) ∷ [])) ++ gs) (sym rest) ∙ h .whole;
           rising = subst (λ (ps : List ℕ). Rising file (ps ++ (end ∷ []))) (sym (put-head i (omega arith))) (rising-more file (take count at) i end (subst (λ (p : ℕ). Rising file (take count at ++ (p ∷ []))) at-i (h .rising)) (omega arith) (run-inside file (i + 1) (omega arith)));
+          rest = rest-turn at₀ at count (h .rest) i;
         }
 
   -- after the last record
@@ -138,15 +142,15 @@ module _ (file at : List ℕ) (count i : ℕ) (h : Headed file at count i) where
     headed-count = let before = h .counted in omega (arith, ap length groups-past)
 
     -- the list with the end of the file
-    put-end : length (groups (recordsOf file)) ≤ 289 → take (count + 1) (set at count (length file / 32)) ≡ take count at ++ ((i + runLength file i) ∷ [])
+    put-end : length (groups (recordsOf file)) < length at₀ → take (count + 1) (set at count (length file / 32)) ≡ take count at ++ ((i + runLength file i) ∷ [])
     put-end few =
         let most = h .inside in
         let c = headed-count in
         let at-end : length file / 32 ≡ i + runLength file i = omega (arith, run-end file i l) in
         put-head (length file / 32) (omega arith) ∙ ap (λ (p : ℕ). take count at ++ (p ∷ [])) at-end
 
-    pub headed-end : length (groups (recordsOf file)) ≤ 289 → groupsIn file (take (count + 1) (set at count (length file / 32))) ≡ groups (recordsOf file)
+    pub headed-end : length (groups (recordsOf file)) < length at₀ → groupsIn file (take (count + 1) (set at count (length file / 32))) ≡ groups (recordsOf file)
     headed-end few = ap (groupsIn file) (put-end few) ∙ sym (append-nil _) ∙ ap (λ (gs : List Group). groupsIn file (take count at ++ ((i + runLength file i) ∷ [])) ++ gs) (sym groups-past) ∙ h .whole
 
-    pub headed-rising : length (groups (recordsOf file)) ≤ 289 → Rising file (take (count + 1) (set at count (length file / 32)))
+    pub headed-rising : length (groups (recordsOf file)) < length at₀ → Rising file (take (count + 1) (set at count (length file / 32)))
     headed-rising few = subst (Rising file) (sym (put-end few)) (h .rising)

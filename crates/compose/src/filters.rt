@@ -1,5 +1,7 @@
 // The lists of the fields, laid into the lent scratch: each domain, narrowed in place.
 use registry::check::meets;
+use registry::sorting::finds_p;
+use registry::sorting::index_run;
 use spec::domains::domain_len;
 use spec::domains::domain_value;
 use spec::domains::part;
@@ -10,15 +12,17 @@ use spec::records::record_at;
 ghost use mathlib.Core.Path.{_≡_};
 ghost use mathlib.Core.Bool.{true};
 ghost use mathlib.Core.List.{foldl, map};
-ghost use Prim.Native.Nat.{suc, _≤_, _<_};
+ghost use Prim.Native.Nat.{suc, _/_, _≤_, _<_};
 ghost use lib.IntN.{pos};
 ghost use lib.ListN.{length, getD, take, replicate};
+ghost use Rattle.lists.specs.Integers.{elemZ};
 ghost use Rattle.lists.specs.Lists.{any, concatMap, filter, orElse, sumN, over};
-ghost use Rattle.spec.specs.Code.{asRecord, InScale};
+ghost use Rattle.spec.specs.Code.{asRecord, InScale, psOf};
 ghost use Rattle.spec.specs.Domain.{domain};
 ghost use Rattle.spec.specs.Kind.{kindOf};
 ghost use Rattle.spec.specs.Record.{constraintOf, fieldBy, fieldOf, recordsOf};
 ghost use Rattle.registry.specs.Code.{groupIn, HeadIn, maskIn, passes, testIn};
+ghost use Rattle.registry.specs.Index.{Indexed};
 ghost use Rattle.compose.specs.Maps.{allowed, narrowBy};
 ghost use Rattle.compose.specs.Code.{constraintsIn, fieldsIn, FieldIn, FieldsIn, HeadsIn, keptBy, listPlaces, listsBy, narrowsKind, packedLists};
 
@@ -95,6 +99,49 @@ fn narrow(list: &mut [i64], h: Record, run: &[u8]) -> usize
     }
 }
 
+// Moves the values that are among the items to the front, by the index of the items; how many they are.
+fn compact_found(list: &mut [i64], run: &[u8], places: &[usize]) -> usize
+    requires { ⌜ Indexed (now run) (now places) ⌝ }
+    ensures count { λ r. ⌜ r ≡ length (filter (λ v. elemZ v (psOf (recordsOf (now (run .entry))))) (now (list .entry))) ⌝ }
+    ensures left { λ r. ⌜ now (list .exit) ≡ over (filter (λ v. elemZ v (psOf (recordsOf (now (run .entry))))) (now (list .entry))) (now (list .entry)) ⌝ }
+{
+    let mut w = 0;
+    let mut i = 0;
+    while i < list.len() {
+        let x = list[i];
+        if finds_p(run, places, Value(x)) {
+            list[w] = x;
+            w += 1;
+        }
+        i += 1;
+    }
+    w
+}
+
+// Keeps the values that are among the items of a oneof, or all where none is; the items are indexed first.
+fn narrow_listed(list: &mut [i64], h: Record, run: &[u8]) -> usize
+    requires { ⌜ (h .code ≡ 18) × (length (now run) / 32 ≤ 2048) ⌝ }
+    ensures count { λ r. ⌜ r ≡ length (keptBy (testIn (kindOf (h .code)) (h .p) (h .q) (recordsOf (now (run .entry)))) (now (list .entry))) ⌝ }
+    ensures left { λ r. ⌜ now (list .exit) ≡ over (keptBy (testIn (kindOf (h .code)) (h .p) (h .q) (recordsOf (now (run .entry)))) (now (list .entry))) (now (list .entry)) ⌝ }
+{
+    let n = run.len() / 32;
+    let mut places = [0usize; 2048];
+    let mut spare = [0usize; 2048];
+    index_run(run, &mut places[..n], &mut spare[..n]);
+    let kept = compact_found(list, run, &places[..n]);
+    if kept == 0 {
+        return list.len();
+    }
+    kept
+}
+
+// A oneof whose items are worth an index: there are many of them and many values. The index has room for 2048.
+fn is_long_oneof(code: u8, items: usize, values: usize) -> bool
+    ensures { λ r. ⌜ (r ≡ true → (code ≡ 18) × (items ≤ 2048)) ⌝ }
+{
+    (code == 18) & (32 < items) & (items <= 2048) & (64 < values)
+}
+
 // The kinds that narrow a list: range, oneof, bitmask.
 fn is_filter(code: u8) -> bool
     ensures { λ r. ⌜ r ≡ narrowsKind (kindOf code) ⌝ }
@@ -123,7 +170,11 @@ fn narrow_by(file: &[u8], head: usize, end: usize, f: usize, list: &mut [i64]) -
     if h.a != f {
         return list.len();
     }
-    narrow(list, h, part(file, head + 1, end))
+    let run = part(file, head + 1, end);
+    if is_long_oneof(h.code, run.len() / 32, list.len()) {
+        return narrow_listed(list, h, run);
+    }
+    narrow(list, h, run)
 }
 
 // Narrows it by each constraint, in file order.
@@ -161,18 +212,18 @@ fn lay_list(
     narrow_all(file, heads, f, &mut list[..len])
 }
 
-// Lays the lists of the fields one behind the other, by the constraints given, and zeros to the end: where list f starts at f, its length at 32 + f.
+// Lays the lists of the fields one behind the other, by the constraints given, and zeros to the end. In lists: where list f starts at f, its length at 32 + f.
 pub(crate) fn lay_lists(
     file: &[u8],
     fields: &[usize],
     constraints: &[usize],
     scratch: &mut [i64],
-) -> [usize; 64]
-    requires { ⌜ (length (now fields) ≤ 33) × FieldsIn (now file) (now fields) × HeadsIn (now file) (now constraints) 32 × (sumN (map (λ d. length (domain d)) (fieldsIn (now file) (now fields))) ≤ length (now scratch)) ⌝ }
-    ensures scratch { λ r. ⌜ now (scratch .exit) ≡ packedLists (listsBy (constraintsIn (now (file .entry)) (now (constraints .entry))) (fieldsIn (now (file .entry)) (now (fields .entry)))) (length (now (scratch .entry))) ⌝ }
-    ensures lists { λ r. ⌜ r ≡ listPlaces (map length (listsBy (constraintsIn (now (file .entry)) (now (constraints .entry))) (fieldsIn (now (file .entry)) (now (fields .entry))))) ⌝ }
+    lists: &mut [usize],
+)
+    requires { ⌜ (length (now fields) ≤ 33) × FieldsIn (now file) (now fields) × HeadsIn (now file) (now constraints) 32 × (sumN (map (λ d. length (domain d)) (fieldsIn (now file) (now fields))) ≤ length (now scratch)) × (now lists ≡ replicate 64 0) ⌝ }
+    ensures scratch { λ _. ⌜ now (scratch .exit) ≡ packedLists (listsBy (constraintsIn (now (file .entry)) (now (constraints .entry))) (fieldsIn (now (file .entry)) (now (fields .entry)))) (length (now (scratch .entry))) ⌝ }
+    ensures lists { λ _. ⌜ now (lists .exit) ≡ listPlaces (map length (listsBy (constraintsIn (now (file .entry)) (now (constraints .entry))) (fieldsIn (now (file .entry)) (now (fields .entry))))) ⌝ }
 {
-    let mut lists = [0usize; 64];
     let mut at = 0;
     let mut k = 1;
     while k < fields.len() {
@@ -190,5 +241,4 @@ pub(crate) fn lay_lists(
         k += 1;
     }
     clear(&mut scratch[at..]);
-    lists
 }

@@ -6,7 +6,7 @@ use spec::records::p_at;
 ghost use mathlib.Core.Path.{_≡_};
 ghost use mathlib.Core.List.{_++_, foldl, map};
 ghost use Prim.Native.Nat.{_+_, _≤_, _<_};
-ghost use lib.ListN.{length, take};
+ghost use lib.ListN.{drop, length, take};
 ghost use Rattle.lists.specs.Lists.{concatMap, countIf, filter};
 ghost use Rattle.lists.proofs.All.{All};
 ghost use Rattle.spec.specs.Record.{assignmentOf, constraintOf, recordsOf};
@@ -65,22 +65,23 @@ pub fn force(file: &[u8], heads: &[usize], chosen: &[u8], row: &mut [i64]) -> bo
     wrote
 }
 
-// Numbers of constraints.
-pub struct Chosen {
-    pub count: usize,
-    pub numbers: [u8; 256],
-}
-
-// The list, and behind it the numbers of the heads of kind a or b.
-fn with_kinds(file: &[u8], heads: &[usize], a: u8, b: u8, list: Chosen) -> Chosen
-    requires { ⌜ HeadsIn (now file) (now heads) 32 × (list .count + countIf (codeIs a b) (groupsIn (now file) (now heads)) ≤ 256) × (length (now heads) ≤ 257) ⌝ }
-    ensures count { λ r. ⌜ r .count ≡ list .count + countIf (codeIs a b) (groupsIn (now (file .entry)) (now (heads .entry))) ⌝ }
-    ensures chosen { λ r. ⌜ chosenIn (now (file .entry)) (now (heads .entry)) (take (r .count) (r .numbers)) ≡ chosenIn (now (file .entry)) (now (heads .entry)) (take (list .count) (list .numbers)) ++ concatMap constraintOf (filter (codeIs a b) (groupsIn (now (file .entry)) (now (heads .entry)))) ⌝ }
-    ensures kept { λ r. ⌜ take (list .count) (r .numbers) ≡ take (list .count) (list .numbers) ⌝ }
-    ensures kinds { λ r. ⌜ ChosenFrom (now (file .entry)) (now (heads .entry)) (list .count) a b (take (r .count) (r .numbers)) ⌝ }
+// Behind the first `before` numbers, writes those of the heads of kind a or b; how many numbers there are then.
+fn with_kinds(
+    file: &[u8],
+    heads: &[usize],
+    a: u8,
+    b: u8,
+    before: usize,
+    numbers: &mut [u8],
+) -> usize
+    requires { ⌜ HeadsIn (now file) (now heads) 32 × (before + countIf (codeIs a b) (groupsIn (now file) (now heads)) ≤ length (now numbers)) × (length (now heads) ≤ 257) ⌝ }
+    ensures count { λ r. ⌜ r ≡ before + countIf (codeIs a b) (groupsIn (now (file .entry)) (now (heads .entry))) ⌝ }
+    ensures chosen { λ r. ⌜ chosenIn (now (file .entry)) (now (heads .entry)) (take r (now (numbers .exit))) ≡ chosenIn (now (file .entry)) (now (heads .entry)) (take before (now (numbers .entry))) ++ concatMap constraintOf (filter (codeIs a b) (groupsIn (now (file .entry)) (now (heads .entry)))) ⌝ }
+    ensures kept { λ r. ⌜ take before (now (numbers .exit)) ≡ take before (now (numbers .entry)) ⌝ }
+    ensures kinds { λ r. ⌜ ChosenFrom (now (file .entry)) (now (heads .entry)) before a b (take r (now (numbers .exit))) ⌝ }
+    ensures rest { λ r. ⌜ drop r (now (numbers .exit)) ≡ drop r (now (numbers .entry)) ⌝ }
 {
-    let mut numbers = list.numbers;
-    let mut count = list.count;
+    let mut count = before;
     let mut k = 1;
     while k < heads.len() {
         let code = code_at(file, heads[k - 1]);
@@ -90,24 +91,21 @@ fn with_kinds(file: &[u8], heads: &[usize], a: u8, b: u8, list: Chosen) -> Chose
         }
         k += 1;
     }
-    Chosen { count, numbers }
+    count
 }
 
-// The enable records in the order in which they force: structural in file order, exhaustive all enable_mask first, then all enable_set.
-pub fn enables_of(engine: Engine, file: &[u8], heads: &[usize]) -> Chosen
-    requires { ⌜ HeadsIn (now file) (now heads) 32 × (length (now heads) ≤ 257) ⌝ }
-    ensures chosen { λ r. ⌜ chosenIn (now (file .entry)) (now (heads .entry)) (take (r .count) (r .numbers)) ≡ enablesOf (asEngine engine) (constraintsIn (now (file .entry)) (now (heads .entry))) ⌝ }
-    ensures kinds { λ r. ⌜ (r .count ≤ 256) × ChosenFrom (now (file .entry)) (now (heads .entry)) 0 20 22 (take (r .count) (r .numbers)) ⌝ }
+// Writes the numbers of the enable records in the order in which they force: structural in file order, exhaustive all enable_mask first, then all enable_set. How many there are.
+pub fn enables_of(engine: Engine, file: &[u8], heads: &[usize], numbers: &mut [u8]) -> usize
+    requires { ⌜ HeadsIn (now file) (now heads) 32 × (length (now heads) ≤ 257) × (length (now numbers) ≡ 256) ⌝ }
+    ensures chosen { λ r. ⌜ chosenIn (now (file .entry)) (now (heads .entry)) (take r (now (numbers .exit))) ≡ enablesOf (asEngine engine) (constraintsIn (now (file .entry)) (now (heads .entry))) ⌝ }
+    ensures kinds { λ r. ⌜ (r ≤ 256) × ChosenFrom (now (file .entry)) (now (heads .entry)) 0 20 22 (take r (now (numbers .exit))) ⌝ }
+    ensures rest { λ r. ⌜ drop r (now (numbers .exit)) ≡ drop r (now (numbers .entry)) ⌝ }
 {
-    let none = Chosen {
-        count: 0,
-        numbers: [0u8; 256],
-    };
     match engine {
-        Engine::Structural => with_kinds(file, heads, 20, 22, none),
+        Engine::Structural => with_kinds(file, heads, 20, 22, 0, numbers),
         Engine::Exhaustive => {
-            let masks = with_kinds(file, heads, 20, 20, none);
-            with_kinds(file, heads, 22, 22, masks)
+            let masks = with_kinds(file, heads, 20, 20, 0, numbers);
+            with_kinds(file, heads, 22, 22, masks, numbers)
         }
     }
 }

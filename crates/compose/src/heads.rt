@@ -2,25 +2,23 @@
 use spec::kinds::is_member;
 use spec::records::code_at;
 ghost use mathlib.Core.Path.{_≡_};
-ghost use Prim.Native.Nat.{_+_, _≤_};
-ghost use lib.ListN.{length, take};
+ghost use Prim.Native.Nat.{_+_, _<_};
+ghost use lib.ListN.{drop, length, take};
 ghost use Rattle.spec.specs.Record.{recordsOf, groups};
 ghost use Rattle.compose.specs.Code.{groupsIn, Rising};
 
-// The records at which the groups start, and the end of the file: count + 1 numbers. There are at most 32 fields, 256 constraints and a projector.
-pub struct Heads {
-    pub count: usize,
-    pub at: [usize; 290],
-}
+// Room for the heads of every file that is not refused: 32 fields, 256 constraints, a projector, and the end of the file.
+pub const HEADS: usize = 290;
 
-pub fn heads_of(file: &[u8]) -> Heads
-    requires { ⌜ length (groups (recordsOf (now file))) ≤ 289 ⌝ }
-    ensures count { λ r. ⌜ r .count ≡ length (groups (recordsOf (now (file .entry)))) ⌝ }
-    ensures groups { λ r. ⌜ groupsIn (now (file .entry)) (take (r .count + 1) (r .at)) ≡ groups (recordsOf (now (file .entry))) ⌝ }
-    ensures rising { λ r. ⌜ Rising (now (file .entry)) (take (r .count + 1) (r .at)) ⌝ }
+// Writes the records at which the groups start, and the end of the file behind them; how many groups there are.
+pub fn heads_of(file: &[u8], at: &mut [usize]) -> usize
+    requires { ⌜ length (groups (recordsOf (now file))) < length (now at) ⌝ }
+    ensures count { λ r. ⌜ r ≡ length (groups (recordsOf (now (file .entry)))) ⌝ }
+    ensures groups { λ r. ⌜ groupsIn (now (file .entry)) (take (r + 1) (now (at .exit))) ≡ groups (recordsOf (now (file .entry))) ⌝ }
+    ensures rising { λ r. ⌜ Rising (now (file .entry)) (take (r + 1) (now (at .exit))) ⌝ }
+    ensures rest { λ r. ⌜ drop (r + 1) (now (at .exit)) ≡ drop (r + 1) (now (at .entry)) ⌝ }
 {
     let n = file.len() / 32;
-    let mut at = [0usize; 290];
     let mut count = 0;
     let mut i = 0;
     while i < n {
@@ -31,5 +29,5 @@ pub fn heads_of(file: &[u8]) -> Heads
         i += 1;
     }
     at[count] = n;
-    Heads { count, at }
+    count
 }

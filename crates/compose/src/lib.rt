@@ -1,9 +1,10 @@
 // Module 2, after src/verify/compose.rs: allowed lists, kept maps, field order, index tuples, forcing. Its definitions are in specs/.
 mod childless;
 pub mod filters;
+mod finding;
 pub mod force;
 pub mod heads;
-mod maps;
+pub mod maps;
 mod ordering;
 pub mod places;
 pub mod plan;

@@ -5,6 +5,7 @@ use spec::records::code_at;
 ghost use mathlib.Core.Path.{_≡_};
 ghost use mathlib.Core.List.{map};
 ghost use Prim.Native.Nat.{_≤_};
+ghost use lib.ListN.{replicate};
 ghost use Rattle.lists.specs.Lists.{upto};
 ghost use Rattle.compose.specs.Maps.{keptMap};
 ghost use Rattle.compose.specs.Code.{constraintsIn, HeadsIn, mapIn, MapsIn};
@@ -12,13 +13,12 @@ ghost use Rattle.compose.specs.Code.{constraintsIn, HeadsIn, mapIn, Maps
 // No field: there is no map.
 pub const NONE: usize = 32;
 
-// The last cross onto each field: its parent at f, the records of its members from the number at 32 + f to before that at 64 + f.
-pub(crate) fn kept_maps(file: &[u8], heads: &[usize], n: usize) -> [usize; 96]
-    requires { ⌜ (n ≤ 32) × HeadsIn (now file) (now heads) n ⌝ }
-    ensures maps { λ r. ⌜ map (mapIn (now (file .entry)) r) (upto 32) ≡ map (keptMap (constraintsIn (now (file .entry)) (now (heads .entry)))) (upto 32) ⌝ }
-    ensures inside { λ r. ⌜ MapsIn (now (file .entry)) r n ⌝ }
+// The last cross onto each field, in maps that has none: its parent at f, the records of its members from the number at 32 + f to before that at 64 + f.
+pub(crate) fn kept_maps(file: &[u8], heads: &[usize], n: usize, maps: &mut [usize])
+    requires { ⌜ (n ≤ 32) × HeadsIn (now file) (now heads) n × (now maps ≡ replicate 96 32) ⌝ }
+    ensures maps { λ _. ⌜ map (mapIn (now (file .entry)) (now (maps .exit))) (upto 32) ≡ map (keptMap (constraintsIn (now (file .entry)) (now (heads .entry)))) (upto 32) ⌝ }
+    ensures inside { λ _. ⌜ MapsIn (now (file .entry)) (now (maps .exit)) n ⌝ }
 {
-    let mut maps = [NONE; 96];
     let mut k = 1;
     while k < heads.len() {
         let head = heads[k - 1];
@@ -30,5 +30,4 @@ pub(crate) fn kept_maps(file: &[u8], heads: &[usize], n: usize) -> [usize; 96]
         }
         k += 1;
     }
-    maps
 }

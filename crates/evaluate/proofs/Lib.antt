@@ -4,3 +4,4 @@ pub mod Rows
 pub mod Places
 pub mod Due
 pub mod Marked
+pub mod Apart

@@ -10,7 +10,7 @@ ghost use mathlib.Core.Path.{_≡_};
 ghost use mathlib.Core.List.{_++_, map};
 ghost use Prim.Native.Nat.{suc, _+_, _/_, _≤_, _<_};
 ghost use lib.ListN.{length};
-ghost use Rattle.lists.specs.Lists.{firstFalse};
+ghost use Rattle.lists.specs.Lists.{all, firstFalse};
 ghost use Rattle.registry.specs.Index.{IndexIn};
 ghost use Rattle.registry.specs.Code.{asProjection, groupIn, ProjectorIn, projectOf, RowIn};
 ghost use Rattle.compose.specs.Code.{fieldsIn, FieldsIn};
@@ -55,6 +55,22 @@ pub(crate) fn failing_constraint(
         j += 1;
     }
     0
+}
+
+// All of the constraints chosen hold.
+pub fn all_hold(file: &[u8], heads: &[usize], chosen: &[u8], index: &[usize], row: &[i64]) -> bool
+    requires { ⌜ ChecksIn (now file) (now heads) (now chosen) (length (now row)) × (length (now file) ≤ 65536) × IndexIn (now file) (now index) ⌝ }
+    ensures { λ r. ⌜ r ≡ all (holdsAt (now (file .entry)) (now (heads .entry)) (now (row .entry))) (now (chosen .entry)) ⌝ }
+{
+    let mut j = 0;
+    while j < chosen.len() {
+        let k = chosen[j] as usize;
+        if !check(file, heads[k], heads[k + 1], index, row) {
+            return false;
+        }
+        j += 1;
+    }
+    true
 }
 
 // The place of a row whose field checks pass: it is asked about the constraints chosen.

@@ -13,6 +13,9 @@ ghost use Rattle.evaluate.specs.Code.{isLongAt, isLongRun, Unindexed};
 // Room for the index of every file.
 pub const RECORDS: usize = 2048;
 
+// The same behind the numbers of 32 fields.
+pub const WIDE: usize = 2080;
+
 // A oneof or a cross of more than 16 members; shorter ones are read through.
 fn is_long(file: &[u8], head: usize, end: usize) -> bool
     requires { ⌜ (head < end) × (end ≤ length (now file) / 32) ⌝ }

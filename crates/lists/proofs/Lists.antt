@@ -1,5 +1,5 @@
 -- Laws of filter, any, all, countIf, concatMap and mapFrom, and of lists cut at a seam.
-use mathlib.Core.Bool.{Bool, _&&_, _||_, false, true, true≢false}
+use mathlib.Core.Bool.{Bool, _&&_, _||_, and-assoc, and-false, false, not, true, true≢false}
 use mathlib.Core.List.{List, [], _++_, _∷_, append-assoc, map}
 use mathlib.Core.Path.{_∙_, _≡_, ap, ap₂, refl, sym}
 use Prim.Native.Nat.{_+_, _<_, _≤_, suc, zero, ℕ}
@@ -29,11 +29,7 @@ module _ {A : Type 0} where
 
   pub all-append : (p : A → Bool) (xs ys : List A) → all p (xs ++ ys) ≡ (all p xs && all p ys)
   all-append p [] ys = refl
-  all-append p (x ∷ xs) ys = ap (λ b. p x && b) (all-append p xs ys) ∙ and-assoc (p x) (all p xs) (all p ys)
-    where
-      and-assoc : (a b c : Bool) → (a && (b && c)) ≡ (a && b && c)
-      and-assoc true b c = refl
-      and-assoc false b c = refl
+  all-append p (x ∷ xs) ys = ap (λ b. p x && b) (all-append p xs ys) ∙ sym (and-assoc (p x) (all p xs) (all p ys))
 
   pub any-append : (p : A → Bool) (xs ys : List A) → any p (xs ++ ys) ≡ (any p xs || any p ys)
   any-append p [] ys = refl
@@ -110,6 +106,22 @@ module _ {A : Type 0} where
   pub filter-ext : (p q : A → Bool) → ((x : A) → p x ≡ q x) → (xs : List A) → filter p xs ≡ filter q xs
   filter-ext p q h [] = refl
   filter-ext p q h (x ∷ xs) = ap₂ (λ (b : Bool) l. consIf b x l) (h x) (filter-ext p q h xs)
+
+  -- a list parted by a test
+  pub all-parted : (p q : A → Bool) (xs : List A) → all p xs ≡ (all p (filter (λ x. not (q x)) xs) && all p (filter q xs))
+  all-parted p q [] = refl
+  all-parted p q (x ∷ xs) = ap (λ b. p x && b) (all-parted p q xs) ∙ go (q x)
+    where
+      swap : (a b c : Bool) → (a && (b && c)) ≡ (b && (a && c))
+      swap true b c = refl
+      swap false b c = sym (and-false b)
+
+      no : List A
+      no = filter (λ y. not (q y)) xs
+
+      go : (t : Bool) → (p x && (all p no && all p (filter q xs))) ≡ (all p (consIf (not t) x no) && all p (consIf t x (filter q xs)))
+      go true = swap (p x) (all p no) (all p (filter q xs))
+      go false = sym (and-assoc (p x) (all p no) (all p (filter q xs)))
 
   pub filter-every : (p : A → Bool) {xs : List A} → All (λ x. p x ≡ true) xs → filter p xs ≡ xs
   filter-every p []ᴬ = refl

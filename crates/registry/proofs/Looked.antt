@@ -39,6 +39,10 @@ eqZ-sym v w = bool-ext (eqZ v w) (eqZ w v) (go v w) (go w v)
     go : (a b : ℤ) → eqZ a b ≡ true → eqZ b a ≡ true
     go a b e = subst (λ (x : ℤ). eqZ x a ≡ true) (eqZ-eq a b e) (eqZ-refl a)
 
+-- of two points with the same p, the one with the lower q is below the other
+under-some : (v q w : ℤ) → ltZ q w ≡ true → under v q v w ≡ true
+under-some v q w h = rw (eqZ-refl v, h) (or-true (ltZ v v))
+
 module _ (test : Record → Bool) (f : ℕ → Record) where
   any-get : (l : List ℕ) (m : ℕ) → m < length l → test (f (getD l m 0)) ≡ true → any test (map f l) ≡ true
   any-get [] m h e = absurd (omega arith)
@@ -118,8 +122,17 @@ module _ (run places : List ℕ) (x : Indexed run places) (v w : ℤ) (k : ℕ) 
   cross-is : crossAllows (map entryOf (recordsOf run)) v w ≡ (not (any isIt (recordsOf run)) || any (pairs v w) (recordsOf run))
   cross-is = ap₂ (λ (a b : Bool). not a || b) (any-key v (recordsOf run) ∙ any-map (eqZ v) (λ (r : Record). r .p) (recordsOf run)) (any-pair v w (recordsOf run))
 
-  pair-before : (m : ℕ) → m < k → pairs v w (at m) ≡ false
-  pair-before m l = pairs-no v w (at m) (λ e f. true≢false (sym (h .below m l) ∙ ap₂ (λ (a b : ℤ). under a b v w) (sym (eqZ-eq v (at m .p) e)) (sym (eqZ-eq w (at m .q) f)) ∙ under-none v w w (ltZ-irrefl w)))
+  -- no place before k pairs v with a value from w on
+  pair-before : (y : ℤ) → ltZ y w ≡ false → (m : ℕ) → m < k → pairs v y (at m) ≡ false
+  pair-before y g m l = pairs-no v y (at m) (λ e f. true≢false (sym (h .below m l) ∙ ap₂ (λ (a b : ℤ). under a b v w) (sym (eqZ-eq v (at m .p) e)) (sym (eqZ-eq y (at m .q) f)) ∙ under-none v y w g))
+
+  -- Place k has another p, or there is none: v is paired with no value from w on.
+  pub pair-past : Past → (y : ℤ) → ltZ y w ≡ false → any (isPair v y) (map entryOf (recordsOf run)) ≡ false
+  pair-past g y n = any-pair v y (recordsOf run) ∙ unseen (pairs v y) (λ m l. go m l (ltb m k) refl)
+    where
+      go : (m : ℕ) → m < length places → (t : Bool) → ltb m k ≡ t → pairs v y (at m) ≡ false
+      go m l true t = pair-before y n m (yes-lt m k t)
+      go m l false t = pairs-no v y (at m) (λ a b. true≢false (sym a ∙ past g m (no-ge m k t) l))
 
   module _ (l : k < length places) (e : eqZ (at k .p) v ≡ true) where
     key-at : any isIt (recordsOf run) ≡ true
@@ -136,15 +149,34 @@ module _ (run places : List ℕ) (x : Indexed run places) (v w : ℤ) (k : ℕ) 
         later m g n a b false t = let c = no-ge k m t in let i : m ≡ k = omega arith in true≢false (sym (eqZ-sym (at m .q) w ∙ b) ∙ subst (λ (z : ℕ). eqZ (at z .q) w ≡ false) (sym i) f)
 
         go : (m : ℕ) → m < length places → (t : Bool) → ltb m k ≡ t → pairs v w (at m) ≡ false
-        go m g true t = pair-before m (yes-lt m k t)
+        go m g true t = pair-before w (ltZ-irrefl w) m (yes-lt m k t)
         go m g false t = pairs-no v w (at m) (λ a b. later m g (no-ge m k t) a b (ltb k m) refl)
 
-    pub cross-same : eqZ (at k .q) w ≡ true → (c : Bool) → c ≡ eqb (at k .code) 4 → (c || any (isPair v w) (map entryOf (recordsOf run))) ≡ crossAllows (map entryOf (recordsOf run)) v w
-    cross-same f c d = go c d ∙ sym (ap (λ (a : Bool). not a || any (isPair v w) (map entryOf (recordsOf run))) (any-key v (recordsOf run) ∙ any-map (eqZ v) (λ (r : Record). r .p) (recordsOf run) ∙ key-at))
+    -- v is paired with no value from w on that is below the q at place k.
+    pub pair-between : (y : ℤ) → ltZ y w ≡ false → ltZ y (at k .q) ≡ true → any (isPair v y) (map entryOf (recordsOf run)) ≡ false
+    pair-between y n u = any-pair v y (recordsOf run) ∙ unseen (pairs v y) (λ m g. go m g (ltb m k) refl)
       where
-        go : (c : Bool) → c ≡ eqb (at k .code) 4 → (c || any (isPair v w) (map entryOf (recordsOf run))) ≡ any (isPair v w) (map entryOf (recordsOf run))
-        go false d = refl
-        go true d = sym (any-pair v w (recordsOf run) ∙ seen (pairs v w) k l (and-join (and-join (sym d) (eqZ-sym v (at k .p) ∙ e)) (eqZ-sym w (at k .q) ∙ f)))
+        later : (m : ℕ) → m < length places → k ≤ m → eqZ v (at m .p) ≡ true → eqZ y (at m .q) ≡ true → (t : Bool) → ltb k m ≡ t → ⊥
+        later m g o a b true t =
+            let r = ap₂ (λ (c d : ℤ). under c d (at k .p) (at k .q)) (eqZ-eq v (at m .p) a) (eqZ-eq y (at m .q) b) ∙ x .sorted .rising k m (yes-lt k m t) g in
+            let s : under v y v (at k .q) ≡ false = ap (λ (c : ℤ). under v y c (at k .q)) (sym (eqZ-eq (at k .p) v e)) ∙ r in
+            true≢false (sym (under-some v y (at k .q) u) ∙ s)
+        later m g o a b false t =
+            let c = no-ge k m t in
+            let i : m ≡ k = omega arith in
+            true≢false (sym u ∙ ap (λ (j : ℕ). ltZ y (at j .q)) (sym i) ∙ ap (λ (z : ℤ). ltZ y z) (sym (eqZ-eq y (at m .q) b)) ∙ ltZ-irrefl y)
+
+        go : (m : ℕ) → m < length places → (t : Bool) → ltb m k ≡ t → pairs v y (at m) ≡ false
+        go m g true t = pair-before y n m (yes-lt m k t)
+        go m g false t = pairs-no v y (at m) (λ a b. later m g (no-ge m k t) a b (ltb k m) refl)
+
+    -- The q at place k is w: v and w are a pair where the record there is one.
+    pub pair-same : eqZ (at k .q) w ≡ true → (c : Bool) → c ≡ eqb (at k .code) 4 → (c || any (isPair v w) (map entryOf (recordsOf run))) ≡ any (isPair v w) (map entryOf (recordsOf run))
+    pair-same f false d = refl
+    pair-same f true d = sym (any-pair v w (recordsOf run) ∙ seen (pairs v w) k l (and-join (and-join (sym d) (eqZ-sym v (at k .p) ∙ e)) (eqZ-sym w (at k .q) ∙ f)))
+
+    pub cross-same : eqZ (at k .q) w ≡ true → (c : Bool) → c ≡ eqb (at k .code) 4 → (c || any (isPair v w) (map entryOf (recordsOf run))) ≡ crossAllows (map entryOf (recordsOf run)) v w
+    cross-same f c d = pair-same f c d ∙ sym (ap (λ (a : Bool). not a || any (isPair v w) (map entryOf (recordsOf run))) (any-key v (recordsOf run) ∙ any-map (eqZ v) (λ (r : Record). r .p) (recordsOf run) ∙ key-at))
 
   module _ (g : Past) where
     pub cross-first : k ≡ 0 → true ≡ crossAllows (map entryOf (recordsOf run)) v w
@@ -157,7 +189,7 @@ module _ (run places : List ℕ) (x : Indexed run places) (v w : ℤ) (k : ℕ) 
         here = omega (arith, h .high-le)
 
         no-pair : (m : ℕ) → m < length places → (t : Bool) → ltb m k ≡ t → pairs v w (at m) ≡ false
-        no-pair m l true t = pair-before m (yes-lt m k t)
+        no-pair m l true t = pair-before w (ltZ-irrefl w) m (yes-lt m k t)
         no-pair m l false t = pairs-no v w (at m) (λ a b. true≢false (sym a ∙ past g m (no-ge m k t) l))
 
         earlier : (m : ℕ) → m < length places → m < k → eqZ v (at (k - 1) .p) ≡ false → eqZ v (at m .p) ≡ true → (t : Bool) → ltb m (k - 1) ≡ t → ⊥

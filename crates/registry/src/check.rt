@@ -81,14 +81,17 @@ pub(crate) fn crosses(run: &[u8], v: Value, w: Value) -> bool
 }
 
 // The members of the head at a record are indexed.
-fn is_indexed(index: &[usize], head: usize, end: usize) -> bool
-    requires { ⌜ end ≤ 65536 ⌝ }
+pub fn is_indexed(index: &[usize], head: usize, end: usize) -> bool
     ensures { λ r. ⌜ r ≡ eqb (getD (now (index .entry)) head 0) (4096 + end) ⌝ }
 {
     if index.len() <= head {
         return false;
     }
-    index[head] == 4096 + end
+    let mark = index[head];
+    if mark < 4096 {
+        return false;
+    }
+    mark - 4096 == end
 }
 
 // The value is one of the items of the oneof at record head.

@@ -3,6 +3,7 @@ use crate::tests::is_even;
 use spec::domains::part;
 use spec::numbers::Value;
 use spec::numbers::power;
+use spec::numbers::powers;
 use spec::records::a_at;
 use spec::records::b_at;
 use spec::records::code_at;
@@ -61,10 +62,11 @@ fn raise(v: u64, k: usize) -> Word
     requires { ⌜ k < 64 ⌝ }
     ensures { λ r. ⌜ r ≡ wordOf (v * 2 ^ k) ⌝ }
 {
-    if v < power(63 - k) {
+    let p = powers(k);
+    if v < p.below {
         return Word {
             fits: true,
-            word: v * power(k),
+            word: v * p.raised,
         };
     }
     Word {

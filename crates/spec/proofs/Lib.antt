@@ -18,4 +18,5 @@ pub mod Accepted
 pub mod Shapes
 pub mod Answers
 pub mod Places
+pub mod Powers
 pub mod Numbered

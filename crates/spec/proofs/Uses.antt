@@ -10,15 +10,16 @@ use lib.ListN.{length}
 use lib.Signed.{leZ, ltZ}
 use Rattle.lists.specs.Lists.{isEmpty}
 use Rattle.lists.proofs.Range.{in-range}
-use Rattle.lists.proofs.Tests.{eqb-no, leb-ext, ltb-no, ltb-yes, or-split}
-use Rattle.spec.specs.Code.{InScale, asRecord, blankIn, classOf, codeRow, codeUse, dueCode, isFieldClass, lengthBy, namedCode, overfullIn, scaledCode, strayCode, unknownIn}
+use Rattle.lists.proofs.Tests.{eqb-no, eqb-yes, leb-ext, ltb-no, ltb-yes, or-split}
+use Rattle.spec.specs.Code.{InScale, asRecord, blankIn, classOf, codeRow, codeUse, dueCode, isFieldClass, lengthBy, namedCode, orderCode, overfullIn, scaledCode, strayCode, unknownIn}
 use Rattle.spec.specs.Domain.{multiples, stepOf}
-use Rattle.spec.specs.Kind.{Kind, Use, constraint, field, fieldRow, isNames, isNatural, isOwn, isUnused, kindOf, member, names, natural, number, own, projector, rowOf, unknown, unused}
+use Rattle.spec.specs.Kind.{Kind, Use, constraint, field, fieldRow, isNames, isNatural, isOwn, isUnused, kindOf, member, names, natural, number, own, projector, rowOf, sectionOf, unknown, unused}
 use Rattle.spec.specs.Record.{Record, recordsOf}
-use Rattle.spec.specs.Refusal.{Context, badOffset, blankBy, blankField, listFault, negative, offScale, onScale, overfull, strayBy, unknownKind}
+use Rattle.spec.specs.Refusal.{Context, badAxis, badOffset, badPacking, blankBy, blankField, listFault, negative, noSuchField, notDue, offScale, onScale, outOfOrder, overfull, strayBy, strayByte, unknownKind}
 use Rattle.spec.proofs.Domain.{length-multiples}
 use Rattle.spec.proofs.Fields.{length-records}
 use Rattle.spec.specs.Kind as kinds
+use Rattle.spec.specs.declared.kinds.Row as code′
 use Rattle.spec.specs.declared.records.Record as code
 
 -- ---- a use by its number
@@ -67,6 +68,33 @@ negative-lt (negsuc n) = refl
 pub scaled-code : (w : kinds.Row) (h : code.Record) → scaledCode (codeRow w) h
     ≡ (not (onScale (h .p)) || not (onScale (h .q)) || not (onScale (h .r)) || (isNatural (w .p) && negative (h .p)) || (isNatural (w .r) && negative (h .r)))
 scaled-code w h = rw (natural-code (w .p), natural-code (w .r), negative-lt (h .p), negative-lt (h .r))
+
+-- the same of the row w that was looked up for a record h
+module _ (w : code′.Row) (h : code.Record) (read : w ≡ codeRow (rowOf (kindOf (h .code)) (h .b))) where
+  pub stray-row : strayCode w h ≡ strayByte (kindOf (h .code)) (asRecord h)
+  stray-row = ap (λ (v : code′.Row). strayCode v h) read ∙ stray-code (rowOf (kindOf (h .code)) (h .b)) h
+
+  pub due-row : (due : ℕ) → dueCode w due h ≡ notDue (kindOf (h .code)) due (asRecord h)
+  due-row due = ap (λ (v : code′.Row). dueCode v due h) read ∙ due-code (rowOf (kindOf (h .code)) (h .b)) due h
+
+  pub order-row : (c : Context) → orderCode w c h ≡ outOfOrder (kindOf (h .code)) c (asRecord h)
+  order-row c = ap (λ (b : Bool). ltb (sectionOf (kindOf (h .code))) (c .section) || eqb (c .section) 2 || b) (due-row (c .fields))
+
+  pub named-row : (n : ℕ) → namedCode w n h ≡ noSuchField (kindOf (h .code)) n (asRecord h)
+  named-row n = ap (λ (v : code′.Row). namedCode v n h) read ∙ named-code (rowOf (kindOf (h .code)) (h .b)) n h
+
+  pub scaled-row : scaledCode w h ≡ offScale (kindOf (h .code)) (asRecord h)
+  scaled-row = ap (λ (v : code′.Row). scaledCode v h) read ∙ scaled-code (rowOf (kindOf (h .code)) (h .b)) h
+
+  module _ (before : List Record) where
+    packing-row : (b : Bool) → eqb (w .list) 33 ≡ b → badPacking (kindOf (h .code)) before (asRecord h) ≡ (b && badAxis before (asRecord h))
+    packing-row b e = ap (λ (c : Bool). c && badAxis before (asRecord h)) (ap (λ (v : code′.Row). eqb (v .list) 33) (sym read) ∙ e)
+
+    pub packing-none : ¬ (w .list ≡ 33) → badPacking (kindOf (h .code)) before (asRecord h) ≡ false
+    packing-none e = packing-row false (eqb-no (w .list) 33 e)
+
+    pub packing-axis : w .list ≡ 33 → badPacking (kindOf (h .code)) before (asRecord h) ≡ badAxis before (asRecord h)
+    packing-axis e = packing-row true (eqb-yes (w .list) 33 e)
 
 -- ±2^56 by two comparisons
 pub scale-bounds : (x : ℤ) → (leZ (negsuc 72057594037927935) x && leZ x (pos 72057594037927936)) ≡ onScale x

@@ -123,6 +123,9 @@ strayCode w h =
 abbrev pub dueCode : code.Row → ℕ → code′.Record → Bool
 dueCode w due h = eqb (w .a) 3 && not (eqb (h .a) due)
 
+abbrev pub orderCode : code.Row → Context → code′.Record → Bool
+orderCode w c h = ltb (sectionOf (kindOf (h .code))) (c .section) || eqb (c .section) 2 || dueCode w (c .fields) h
+
 abbrev pub namedCode : code.Row → ℕ → code′.Record → Bool
 namedCode w n h = (eqb (w .a) 4 && leb n (h .a)) || (eqb (w .b) 4 && leb n (h .b))
 

@@ -3,11 +3,12 @@ use crate::axes::bad_axis;
 use crate::axes::bad_offset;
 use crate::domains::domain_len;
 use crate::judge::Context;
-use crate::judge::no_such_field;
-use crate::judge::not_due;
-use crate::judge::off_scale;
-use crate::judge::out_of_order;
+use crate::judge::due_by;
+use crate::judge::named_by;
+use crate::judge::out_of_order_by;
 use crate::judge::over_full;
+use crate::judge::scaled_by;
+use crate::judge::stray_by;
 use crate::judge::stray_byte;
 use crate::judge::unknown_kind;
 use crate::kinds::Class;
@@ -19,7 +20,7 @@ ghost use mathlib.Core.Bool.{true, false};
 ghost use Prim.Native.Nat.{_<_};
 ghost use Rattle.spec.specs.Kind.{kindOf, isMember};
 ghost use Rattle.spec.specs.Record.{recordsOf};
-ghost use Rattle.spec.specs.Refusal.{offScale, blankField, headTests, memberTests, belongs, badPacking, listFault, firstTrue, misfiledNumber};
+ghost use Rattle.spec.specs.Refusal.{offScale, blankField, headTests, memberTests, belongs, listFault, firstTrue, misfiledNumber};
 ghost use Rattle.spec.specs.Code.{asRecord, asContext};
 
 // 8: the domain of a field without a list is empty.
@@ -48,19 +49,20 @@ pub(crate) fn head_fault(h: Record, c: Context) -> u8
     if unknown_kind(h) {
         return 2;
     }
-    if stray_byte(h) {
+    let w = row_of(h.code, h.b);
+    if stray_by(w, h) {
         return 3;
     }
-    if out_of_order(h, c) {
+    if out_of_order_by(w, h, c) {
         return 4;
     }
     if over_full(h, c) {
         return 5;
     }
-    if no_such_field(h, c.fields) {
+    if named_by(w, c.fields, h) {
         return 6;
     }
-    if off_scale(h) {
+    if scaled_by(w, h) {
         return 7;
     }
     if blank_field(h) {
@@ -79,36 +81,29 @@ pub(crate) fn belongs_to(h: Record, m: Record) -> bool
     w.list == v.list
 }
 
-// 9 for an axis: a member of list 33.
-fn bad_packing(m: Record, before: &[u8]) -> bool
-    requires { ⌜ (m .a < 256) × (m .b < 256) ⌝ }
-    ensures { λ r. ⌜ r ≡ badPacking (kindOf (m .code)) (recordsOf (now (before .entry))) (asRecord m) ⌝ }
-{
-    let w = row_of(m.code, m.b);
-    if w.list != 33 {
-        return false;
-    }
-    bad_axis(m, before)
-}
-
 // A member m that head h takes, after so many fields and the members before it: the lowest number from 3 to 9.
 pub(crate) fn member_fault(h: Record, fields: usize, before: &[u8], m: Record) -> u8
     requires { ⌜ (m .a < 256) × (m .b < 256) ⌝ }
     ensures { λ r. ⌜ r ≡ firstTrue 2 (memberTests (kindOf (m .code)) fields (asRecord h) (recordsOf (now (before .entry))) (asRecord m)) ⌝ }
 {
-    if stray_byte(m) {
+    let w = row_of(m.code, m.b);
+    if stray_by(w, m) {
         return 3;
     }
-    if not_due(m, h.a) {
+    if due_by(w, h.a, m) {
         return 4;
     }
-    if no_such_field(m, fields) {
+    if named_by(w, fields, m) {
         return 6;
     }
-    if off_scale(m) {
+    if scaled_by(w, m) {
         return 7;
     }
-    if bad_packing(m, before) {
+    // An axis: a member of list 33.
+    if w.list != 33 {
+        return 0;
+    }
+    if bad_axis(m, before) {
         return 9;
     }
     0

@@ -14,8 +14,8 @@ ghost use lib.IntN.{pos};
 ghost use lib.Signed.{ltZ};
 ghost use Rattle.lists.specs.Integers.{eqZ};
 ghost use Rattle.spec.specs.Kind.{kindOf};
-ghost use Rattle.spec.specs.Refusal.{unknownKind, strayByte, notDue, outOfOrder, overfull, noSuchField, onScale, offScale};
-ghost use Rattle.spec.specs.Code.{asRecord, asContext, strayCode, dueCode, namedCode, scaledCode};
+ghost use Rattle.spec.specs.Refusal.{unknownKind, strayByte, overfull, onScale};
+ghost use Rattle.spec.specs.Code.{asRecord, asContext, strayCode, dueCode, orderCode, namedCode, scaledCode};
 
 // Where a head stands: how many fields and constraints are before it, and the section that was reached: 0 fields, 1 constraints, 2 projector.
 pub struct Context {
@@ -49,7 +49,8 @@ pub(crate) fn unknown_kind(h: Record) -> bool
     }
 }
 
-fn stray_by(w: Row, h: Record) -> bool
+// 3: something that the kind, of row w, does not use is not 0.
+pub(crate) fn stray_by(w: Row, h: Record) -> bool
     ensures { λ r. ⌜ r ≡ strayCode w h ⌝ }
 {
     (h.padding != 0)
@@ -60,31 +61,25 @@ fn stray_by(w: Row, h: Record) -> bool
         | ((w.r == UNUSED) & !is_zero(h.r))
 }
 
-// 3: something that the kind does not use is not 0.
+// The same with the row looked up.
 pub(crate) fn stray_byte(h: Record) -> bool
     ensures { λ r. ⌜ r ≡ strayByte (kindOf (h .code)) (asRecord h) ⌝ }
 {
     stray_by(row_of(h.code, h.b), h)
 }
 
-fn due_by(w: Row, due: usize, h: Record) -> bool
+// 4: a is not the number due.
+pub(crate) fn due_by(w: Row, due: usize, h: Record) -> bool
     ensures { λ r. ⌜ r ≡ dueCode w due h ⌝ }
 {
     (w.a == OWN) & (h.a != due)
 }
 
-// 4: a is not the number due.
-pub(crate) fn not_due(h: Record, due: usize) -> bool
-    ensures { λ r. ⌜ r ≡ notDue (kindOf (h .code)) due (asRecord h) ⌝ }
-{
-    due_by(row_of(h.code, h.b), due, h)
-}
-
 // 4: fields, then constraints, then one projector.
-pub(crate) fn out_of_order(h: Record, c: Context) -> bool
-    ensures { λ r. ⌜ r ≡ outOfOrder (kindOf (h .code)) (asContext c) (asRecord h) ⌝ }
+pub(crate) fn out_of_order_by(w: Row, h: Record, c: Context) -> bool
+    ensures { λ r. ⌜ r ≡ orderCode w (asContext c) h ⌝ }
 {
-    (section_of(h.code) < c.section) | (c.section == 2) | not_due(h, c.fields)
+    (section_of(h.code) < c.section) | (c.section == 2) | due_by(w, c.fields, h)
 }
 
 // 5: the 33rd field, the 257th constraint.
@@ -100,17 +95,11 @@ pub(crate) fn over_full(h: Record, c: Context) -> bool
     }
 }
 
-fn named_by(w: Row, n: usize, h: Record) -> bool
+// 6: a named field is not below n, the count of fields before it.
+pub(crate) fn named_by(w: Row, n: usize, h: Record) -> bool
     ensures { λ r. ⌜ r ≡ namedCode w n h ⌝ }
 {
     ((w.a == NAMES) & (n <= h.a)) | ((w.b == NAMES) & (n <= h.b))
-}
-
-// 6: a named field is not below n, the count of fields before it.
-pub(crate) fn no_such_field(h: Record, n: usize) -> bool
-    ensures { λ r. ⌜ r ≡ noSuchField (kindOf (h .code)) n (asRecord h) ⌝ }
-{
-    named_by(row_of(h.code, h.b), n, h)
 }
 
 // Within ±2^56.
@@ -120,7 +109,8 @@ pub(crate) fn on_scale(x: i64) -> bool
     (-0x100_0000_0000_0000 <= x) & (x <= 0x100_0000_0000_0000)
 }
 
-fn scaled_by(w: Row, h: Record) -> bool
+// 7: p, q or r off the scale; a negative mask or step.
+pub(crate) fn scaled_by(w: Row, h: Record) -> bool
     ensures { λ r. ⌜ r ≡ scaledCode w h ⌝ }
 {
     !on_scale(h.p)
@@ -128,11 +118,4 @@ fn scaled_by(w: Row, h: Record) -> bool
         | !on_scale(h.r)
         | ((w.p == NATURAL) & is_negative(h.p))
         | ((w.r == NATURAL) & is_negative(h.r))
-}
-
-// 7: p, q or r off the scale; a negative mask or step.
-pub(crate) fn off_scale(h: Record) -> bool
-    ensures { λ r. ⌜ r ≡ offScale (kindOf (h .code)) (asRecord h) ⌝ }
-{
-    scaled_by(row_of(h.code, h.b), h)
 }

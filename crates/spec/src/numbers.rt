@@ -1,6 +1,6 @@
 // Numbers: a list's index and a field's value, powers of two, and the bytes of a file read as numbers.
 ghost use mathlib.Core.Path.{_≡_};
-ghost use Prim.Native.Nat.{_+_, _≤_, _<_, _^_};
+ghost use Prim.Native.Nat.{_+_, _-_, _≤_, _<_, _^_};
 ghost use lib.ListN.{length};
 ghost use Rattle.lists.specs.Integers.{signed64};
 ghost use Rattle.spec.specs.Record.{wordAt};
@@ -86,6 +86,24 @@ pub fn power(k: usize) -> u64
     ensures { λ r. ⌜ r ≡ 2 ^ k ⌝ }
 {
     POWERS[k]
+}
+
+// A number below `below` stays below 2^63 when multiplied by `raised`.
+pub struct Shift {
+    pub raised: u64,
+    pub below: u64,
+}
+
+// 2^k and 2^(63 − k), from one copy of the table.
+pub fn powers(k: usize) -> Shift
+    requires { ⌜ k < 64 ⌝ }
+    ensures { λ r. ⌜ (r .raised ≡ 2 ^ k) × (r .below ≡ 2 ^ (63 - k)) ⌝ }
+{
+    let table = POWERS;
+    Shift {
+        raised: table[k],
+        below: table[63 - k],
+    }
 }
 
 pub(crate) fn wide(x: u8) -> u64

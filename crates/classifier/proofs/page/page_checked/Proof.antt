@@ -1,9 +1,10 @@
--- `classifier::page::page_checked` meets its contract: no index, none indexed.
+-- `classifier::page::page_checked` meets its contract: no index, none indexed; no cells, no tables.
 use mathlib.Core.Path.{refl}
 use borrow.Author.Needs.{needs}
 use lib.ListN.{length}
 use Rattle.compose.specs.Tuples.{structural}
 use Rattle.compose.proofs.Prepared.{constraints-low}
+use Rattle.compose.proofs.Rowed.{no-tables}
 use Rattle.classifier.proofs.Walked.{no-index}
 use Rattle.classifier.proofs.page.page_checked.Statement.{statement}
 use Rattle.classifier.proofs.page.page_checked.Tie as tie
@@ -40,20 +41,44 @@ same-length c = search needs
 returns : tie.Need-returns
 returns c = search needs
 
-array-share-prefix-none : tie.Need-array-share-prefix-none
-array-share-prefix-none c = search needs
+has-long-map-requires : tie.Need-has-long-map-requires
+has-long-map-requires c κs = search needs
 
-slice-aggregate-page-planned : tie.Need-slice-aggregate-page-planned
-slice-aggregate-page-planned c = search needs
+array-share-prefix-empty : tie.Need-array-share-prefix-empty
+array-share-prefix-empty c = search needs
 
-page-planned-requires : tie.Need-page-planned-requires
-page-planned-requires c κs = let s = c .before .before .before .before .before .before .before .before .before .before in (s .pre .0, no-index (s .args .file .now), s .pre .1)
+slice-aggregate-page-mapped : tie.Need-slice-aggregate-page-mapped
+slice-aggregate-page-mapped c = search needs
+
+page-mapped-requires : tie.Need-page-mapped-requires
+page-mapped-requires c κs = let s = c .before .before .before .before .before .before .before .before .before .before .before .before in (s .pre .0, no-index (s .args .file .now), s .pre .1)
 
 same-length-2 : tie.Need-same-length-2
 same-length-2 c = search needs
 
 returns-2 : tie.Need-returns-2
 returns-2 c = search needs
+
+array-share-prefix-empty-2 : tie.Need-array-share-prefix-empty-2
+array-share-prefix-empty-2 c = search needs
+
+slice-aggregate-write-page : tie.Need-slice-aggregate-write-page
+slice-aggregate-write-page c = search needs
+
+slice-aggregate-write-page-2 : tie.Need-slice-aggregate-write-page-2
+slice-aggregate-write-page-2 c = search needs
+
+slice-aggregate-write-page-3 : tie.Need-slice-aggregate-write-page-3
+slice-aggregate-write-page-3 c = search needs
+
+write-page-requires : tie.Need-write-page-requires
+write-page-requires c κs = let s = c .before .before .before .before .before .before .before .before .before .before .before .before .before .before in (s .pre .0, no-index (s .args .file .now), no-tables (s .args .file .now) (s .args .scratch .now) (s .args .lists .now) (s .args .maps .now) (length (s .args .order .now)), s .pre .1)
+
+same-length-3 : tie.Need-same-length-3
+same-length-3 c = search needs
+
+returns-3 : tie.Need-returns-3
+returns-3 c = search needs
 
 pub page-checked-spec : {M : Type 1} → statement M
 page-checked-spec =
@@ -69,8 +94,16 @@ page-checked-spec =
     page-indexed-requires
     same-length
     returns
-    array-share-prefix-none
-    slice-aggregate-page-planned
-    page-planned-requires
+    has-long-map-requires
+    array-share-prefix-empty
+    slice-aggregate-page-mapped
+    page-mapped-requires
     same-length-2
-    returns-2)
+    returns-2
+    array-share-prefix-empty-2
+    slice-aggregate-write-page
+    slice-aggregate-write-page-2
+    slice-aggregate-write-page-3
+    write-page-requires
+    same-length-3
+    returns-3)

@@ -4,6 +4,7 @@ use borrow.Author.Needs.{needs}
 use lib.ListN.{length}
 use Rattle.compose.specs.Tuples.{structural}
 use Rattle.compose.proofs.Prepared.{constraints-low}
+use Rattle.compose.proofs.Rowed.{no-tables}
 use Rattle.classifier.proofs.Walked.{room-indexed}
 use Rattle.classifier.proofs.page.page_indexed.Statement.{statement}
 use Rattle.classifier.proofs.page.page_indexed.Tie as tie
@@ -38,17 +39,38 @@ index-heads-requires c κs =
     let z = room-indexed (s .args .file .now) (s .args .heads .now) (length (s .args .order .now)) (s .args .c) (s .pre .0 .opened) 2048 refl in
     (constraints-low (s .args .file .now) (s .args .heads .now) (length (s .args .order .now)) (s .args .c) (s .pre .0 .opened) structural (s .args .c) refl, z .0, z .1, z .2, z .3)
 
-slice-aggregate-page-planned : tie.Need-slice-aggregate-page-planned
-slice-aggregate-page-planned c = search needs
+has-long-map-requires : tie.Need-has-long-map-requires
+has-long-map-requires c κs = search needs
 
-page-planned-requires : tie.Need-page-planned-requires
-page-planned-requires c κs = search needs
+slice-aggregate-page-mapped : tie.Need-slice-aggregate-page-mapped
+slice-aggregate-page-mapped c = search needs
+
+page-mapped-requires : tie.Need-page-mapped-requires
+page-mapped-requires c κs = search needs
 
 same-length : tie.Need-same-length
 same-length c = search needs
 
 returns : tie.Need-returns
 returns c = search needs
+
+slice-aggregate-write-page : tie.Need-slice-aggregate-write-page
+slice-aggregate-write-page c = search needs
+
+slice-aggregate-write-page-2 : tie.Need-slice-aggregate-write-page-2
+slice-aggregate-write-page-2 c = search needs
+
+slice-aggregate-write-page-3 : tie.Need-slice-aggregate-write-page-3
+slice-aggregate-write-page-3 c = search needs
+
+write-page-requires : tie.Need-write-page-requires
+write-page-requires c κs = let s = c .before .before .before .before .before .before .before .before .before .before .before .before .before .before .before .before .before .before .before in (s .pre .0, c .before .before .before .before .before .before .before .before .index-heads .ensures, no-tables (s .args .file .now) (s .args .scratch .now) (s .args .lists .now) (s .args .maps .now) (length (s .args .order .now)), s .pre .1)
+
+same-length-2 : tie.Need-same-length-2
+same-length-2 c = search needs
+
+returns-2 : tie.Need-returns-2
+returns-2 c = search needs
 
 pub page-indexed-spec : {M : Type 1} → statement M
 page-indexed-spec =
@@ -63,7 +85,14 @@ page-indexed-spec =
     slice-aggregate-index-heads
     slice-aggregate-index-heads-2
     index-heads-requires
-    slice-aggregate-page-planned
-    page-planned-requires
+    has-long-map-requires
+    slice-aggregate-page-mapped
+    page-mapped-requires
     same-length
-    returns)
+    returns
+    slice-aggregate-write-page
+    slice-aggregate-write-page-2
+    slice-aggregate-write-page-3
+    write-page-requires
+    same-length-2
+    returns-2)

@@ -54,24 +54,24 @@ module _ (s : tie.Start Inv-loop μ-loop) where
 -- the enable records, where their constraints stand
 module _ (c : tie.After-enables-of Inv-loop μ-loop) where
   abbrev e-start : tie.Start Inv-loop μ-loop
-  e-start = c .before .before .before .before .before .before .before .before .before .before .before .before
+  e-start = c .before .before .before .before .before .before .before .before .before .before .before .before .before
 
   abbrev numbers : List ℕ
-  numbers = take (c .enables-of .result .count) (c .enables-of .result .numbers)
+  numbers = take (c .enables-of .result) (c .enables-of .last .1 .1 .1 .0)
 
-  numbers-wide : c .enables-of .result .count ≤ length (c .enables-of .result .numbers)
-  numbers-wide = let w : length (c .enables-of .result .numbers) ≡ 256 = search needs in let m = c .enables-of .ensures .1 .0 in omega arith
+  numbers-wide : c .enables-of .result ≤ length (c .enables-of .last .1 .1 .1 .0)
+  numbers-wide = let w : length (c .enables-of .last .1 .1 .1 .0) ≡ 256 = c .enables-of .kept .1 .1 .1 .0 in let m = c .enables-of .ensures .1 .0 .0 in omega arith
 
   chosen : chosenIn (e-start .args .file .now) (rulesOf (e-start .args .heads .now) (length (e-start .args .order .now)) (e-start .args .c)) numbers ≡ enablesOf (asEngine (e-start .args .engine)) (constraintsIn (e-start .args .file .now) (rulesOf (e-start .args .heads .now) (length (e-start .args .order .now)) (e-start .args .c)))
   chosen = let s = e-start in subst (λ (r : List ℕ). chosenIn (s .args .file .now) r numbers ≡ enablesOf (asEngine (s .args .engine)) (constraintsIn (s .args .file .now) r)) (rules-part (s .args .heads .now) (length (s .args .order .now)) (s .args .c)) (c .enables-of .ensures .0)
 
   kinds : ChosenFrom (e-start .args .file .now) (rulesOf (e-start .args .heads .now) (length (e-start .args .order .now)) (e-start .args .c)) 0 20 22 numbers
-  kinds = let s = e-start in subst (λ (r : List ℕ). ChosenFrom (s .args .file .now) r 0 20 22 numbers) (rules-part (s .args .heads .now) (length (s .args .order .now)) (s .args .c)) (c .enables-of .ensures .1 .1)
+  kinds = let s = e-start in subst (λ (r : List ℕ). ChosenFrom (s .args .file .now) r 0 20 22 numbers) (rules-part (s .args .heads .now) (length (s .args .order .now)) (s .args .c)) (c .enables-of .ensures .1 .0 .1)
 
 -- the first step
 module _ (c : tie.After-first-of Inv-loop μ-loop) where
   abbrev f-start : tie.Start Inv-loop μ-loop
-  f-start = c .before .before .before .before .before .before .before .before .before .before .before .before .before .before
+  f-start = c .before .before .before .before .before .before .before .before .before .before .before .before .before .before .before
 
   begun : Begun (plan (f-start)) (length (f-start .args .order .now)) (c .first-of .result .tuple)
   begun =
@@ -84,7 +84,7 @@ module _ (c : tie.After-first-of Inv-loop μ-loop) where
 -- the loop
 module _ (c : tie.At-loop Inv-loop μ-loop) where
   abbrev l-start : tie.Start Inv-loop μ-loop
-  l-start = c .before .before .before .before .before .before .before .before .before .before .before .before .before .before .before .before .before .before .before .before .before
+  l-start = c .before .before .before .before .before .before .before .before .before .before .before .before .before .before .before .before .before .before .before .before .before .before
 
   wide-out : length (c .loop .out) ≡ length (l-start .args .out .now)
   wide-out = writing-wide _ _ _ _ _ (c .loop .at) (c .loop .count) (c .loop .last) (c .loop .out) (c .loop .inv .0)
@@ -152,38 +152,41 @@ part-enables-of-start c = let f = c .before .before .before .before .before .bef
 part-enables-of-end : tie.Need-part-enables-of-end Inv-loop μ-loop
 part-enables-of-end c = let f = c .before .before .before .before .before .before .before .before .before .before .pre .0 .planned .plan-in .places .few in let l = c .before .before .before .before .before .before .before .before .before .before .pre .0 .opened .long in search needs
 
+slice-aggregate-enables-of : tie.Need-slice-aggregate-enables-of Inv-loop μ-loop
+slice-aggregate-enables-of c = refl
+
 enables-of-requires : tie.Need-enables-of-requires Inv-loop μ-loop
 enables-of-requires c κs =
-    let s = c .before .before .before .before .before .before .before .before .before .before .before in
-    (constraints-low (s .args .file .now) (s .args .heads .now) (length (s .args .order .now)) (s .args .c) (s .pre .0 .opened) structural (s .args .c) refl, lent-few (s .args .file .now) (s .args .heads .now) (length (s .args .order .now)) (s .args .c) (s .pre .0 .opened))
+    let s = c .before .before .before .before .before .before .before .before .before .before .before .before in
+    (constraints-low (s .args .file .now) (s .args .heads .now) (length (s .args .order .now)) (s .args .c) (s .pre .0 .opened) structural (s .args .c) refl, lent-few (s .args .file .now) (s .args .heads .now) (length (s .args .order .now)) (s .args .c) (s .pre .0 .opened), refl)
 
 first-of-requires : tie.Need-first-of-requires Inv-loop μ-loop
-first-of-requires c κs = let s = c .before .before .before .before .before .before .before .before .before .before .before .before .before in (s .pre .0 .planned .plan-in, walking-walks (asEngine (s .args .engine)) (s .args .file .now) (s .args .heads .now) (s .args .c) (s .args .checks .now) (s .args .due .now) (s .args .scratch .now) (s .args .lists .now) (s .args .maps .now) (s .args .order .now) (s .pre .0), s .pre .3)
+first-of-requires c κs = let s = c .before .before .before .before .before .before .before .before .before .before .before .before .before .before in (s .pre .0 .planned .plan-in, walking-walks (asEngine (s .args .engine)) (s .args .file .now) (s .args .heads .now) (s .args .c) (s .args .checks .now) (s .args .due .now) (s .args .scratch .now) (s .args .lists .now) (s .args .maps .now) (s .args .order .now) (s .pre .0), s .pre .3)
 
 start-tuple-requires : tie.Need-start-tuple-requires Inv-loop μ-loop
 start-tuple-requires c κs = tt
 
 array-share-prefix-tuple : tie.Need-array-share-prefix-tuple Inv-loop μ-loop
-array-share-prefix-tuple c = omega (arith, begun (c .before .before) .long, c .before .before .before .before .before .before .before .before .before .before .before .before .before .before .before .before .pre .0 .planned .plan-in .places .few)
+array-share-prefix-tuple c = omega (arith, begun (c .before .before) .long, c .before .before .before .before .before .before .before .before .before .before .before .before .before .before .before .before .before .pre .0 .planned .plan-in .places .few)
 
 slice-aggregate-pick-row : tie.Need-slice-aggregate-pick-row Inv-loop μ-loop
 slice-aggregate-pick-row c = sym (front-long (c .before .before .before))
 
 array-borrow-prefix-raw : tie.Need-array-borrow-prefix-raw Inv-loop μ-loop
-array-borrow-prefix-raw c = c .before .before .before .before .before .before .before .before .before .before .before .before .before .before .before .before .before .pre .0 .planned .plan-in .places .few
+array-borrow-prefix-raw c = c .before .before .before .before .before .before .before .before .before .before .before .before .before .before .before .before .before .before .pre .0 .planned .plan-in .places .few
 
 slice-aggregate-pick-row-2 : tie.Need-slice-aggregate-pick-row-2 Inv-loop μ-loop
-slice-aggregate-pick-row-2 c = let s = c .before .before .before .before .before .before .before .before .before .before .before .before .before .before .before .before .before .before in sym (length-take-le (length (s .args .order .now)) (replicate 32 (pos 0)) (s .pre .0 .planned .plan-in .places .few))
+slice-aggregate-pick-row-2 c = let s = c .before .before .before .before .before .before .before .before .before .before .before .before .before .before .before .before .before .before .before in sym (length-take-le (length (s .args .order .now)) (replicate 32 (pos 0)) (s .pre .0 .planned .plan-in .places .few))
 
 pick-row-requires : tie.Need-pick-row-requires Inv-loop μ-loop
 pick-row-requires c κs =
-    let s = c .before .before .before .before .before .before .before .before .before .before .before .before .before .before .before .before .before .before in
+    let s = c .before .before .before .before .before .before .before .before .before .before .before .before .before .before .before .before .before .before .before in
     let t = c .before .before .before .before in
     (pick-in (s .args .file .now) (s .args .scratch .now) (s .args .lists .now) (s .args .maps .now) (s .args .order .now) (s .pre .0 .planned .plan-in .places) (take (length (s .args .order .now)) (t .first-of .result .tuple)) (begun t .placed), length-take-le (length (s .args .order .now)) (replicate 32 (pos 0)) (s .pre .0 .planned .plan-in .places .few) ∙ sym (front-long t))
 
 loop-holds : tie.Need-loop-holds Inv-loop μ-loop
 loop-holds c =
-    let s = c .before .before .before .before .before .before .before .before .before .before .before .before .before .before .before .before .before .before .before .before in
+    let s = c .before .before .before .before .before .before .before .before .before .before .before .before .before .before .before .before .before .before .before .before .before in
     let t = c .before .before .before .before .before .before in
     let r = c .before .pick-row in
     let row = r .last .1 .1 .1 .0 in
@@ -202,7 +205,7 @@ sub-if1 : tie.Need-sub-if1 Inv-loop μ-loop
 sub-if1 c = let i = inside (c .before) in omega (arith, i)
 
 add-if1 : tie.Need-add-if1 Inv-loop μ-loop
-add-if1 c = let f = c .before .before .before .before .before .before .before .before .before .before .before .before .before .before .before .before .before .before .before .before .before .before .pre .0 .planned .plan-in .places .few in let l = c .before .before .before .before .before .before .before .before .before .before .before .before .before .before .before .before .before .before .before .before .before .before .pre .0 .opened .long in search needs
+add-if1 c = let f = c .before .before .before .before .before .before .before .before .before .before .before .before .before .before .before .before .before .before .before .before .before .before .before .pre .0 .planned .plan-in .places .few in let l = c .before .before .before .before .before .before .before .before .before .before .before .before .before .before .before .before .before .before .before .before .before .before .before .pre .0 .opened .long in search needs
 
 written-requires : tie.Need-written-requires Inv-loop μ-loop
 written-requires c κs = tt
@@ -212,55 +215,55 @@ same-length c = wide-out (c .before .before .before)
 
 returns : tie.Need-returns Inv-loop μ-loop
 returns c =
-    let s = c .before .before .before .before .before .before .before .before .before .before .before .before .before .before .before .before .before .before .before .before .before .before .before .before in
+    let s = c .before .before .before .before .before .before .before .before .before .before .before .before .before .before .before .before .before .before .before .before .before .before .before .before .before in
     let a = c .before .before .before in
     let e = stopped (c .before .before) (c .before .if1 .taken) in
     (c .written .ensures .0 ∙ e .0, e .1)
 
 add-next : tie.Need-add-next Inv-loop μ-loop
-add-next c = let f = c .before .before .before .before .before .before .before .before .before .before .before .before .before .before .before .before .before .before .before .before .before .before .before .pre .0 .planned .plan-in .places .few in let l = c .before .before .before .before .before .before .before .before .before .before .before .before .before .before .before .before .before .before .before .before .before .before .before .pre .0 .opened .long in search needs
+add-next c = let f = c .before .before .before .before .before .before .before .before .before .before .before .before .before .before .before .before .before .before .before .before .before .before .before .before .pre .0 .planned .plan-in .places .few in let l = c .before .before .before .before .before .before .before .before .before .before .before .before .before .before .before .before .before .before .before .before .before .before .before .before .pre .0 .opened .long in search needs
 
 add-next-2 : tie.Need-add-next-2 Inv-loop μ-loop
-add-next-2 c = let i = room c in let h = out-small (c .before .before .before .before .before .before .before .before .before .before .before .before .before .before .before .before .before .before .before .before .before .before .before) in record { fits = omega arith }
+add-next-2 c = let i = room c in let h = out-small (c .before .before .before .before .before .before .before .before .before .before .before .before .before .before .before .before .before .before .before .before .before .before .before .before) in record { fits = omega arith }
 
 slice-aggregate-write-verdict : tie.Need-slice-aggregate-write-verdict Inv-loop μ-loop
-slice-aggregate-write-verdict c = let s = c .before .before .before .before .before .before .before .before .before .before .before .before .before .before .before .before .before .before .before .before .before .before .before .before in sym (field-heads (s .args .file .now) (s .args .heads .now) (length (s .args .order .now)) (s .args .c) (s .pre .0 .opened))
+slice-aggregate-write-verdict c = let s = c .before .before .before .before .before .before .before .before .before .before .before .before .before .before .before .before .before .before .before .before .before .before .before .before .before in sym (field-heads (s .args .file .now) (s .args .heads .now) (length (s .args .order .now)) (s .args .c) (s .pre .0 .opened))
 
 mul-write-verdict : tie.Need-mul-write-verdict Inv-loop μ-loop
-mul-write-verdict c = let f = c .before .before .before .before .before .before .before .before .before .before .before .before .before .before .before .before .before .before .before .before .before .before .before .before .pre .0 .planned .plan-in .places .few in let l = c .before .before .before .before .before .before .before .before .before .before .before .before .before .before .before .before .before .before .before .before .before .before .before .before .pre .0 .opened .long in search needs
+mul-write-verdict c = let f = c .before .before .before .before .before .before .before .before .before .before .before .before .before .before .before .before .before .before .before .before .before .before .before .before .before .pre .0 .planned .plan-in .places .few in let l = c .before .before .before .before .before .before .before .before .before .before .before .before .before .before .before .before .before .before .before .before .before .before .before .before .before .pre .0 .opened .long in search needs
 
 sub-write-verdict : tie.Need-sub-write-verdict Inv-loop μ-loop
-sub-write-verdict c = let f = c .before .before .before .before .before .before .before .before .before .before .before .before .before .before .before .before .before .before .before .before .before .before .before .before .pre .0 .planned .plan-in .places .few in let l = c .before .before .before .before .before .before .before .before .before .before .before .before .before .before .before .before .before .before .before .before .before .before .before .before .pre .0 .opened .long in search needs
+sub-write-verdict c = let f = c .before .before .before .before .before .before .before .before .before .before .before .before .before .before .before .before .before .before .before .before .before .before .before .before .before .pre .0 .planned .plan-in .places .few in let l = c .before .before .before .before .before .before .before .before .before .before .before .before .before .before .before .before .before .before .before .before .before .before .before .before .before .pre .0 .opened .long in search needs
 
 part-write-verdict-start : tie.Need-part-write-verdict-start Inv-loop μ-loop
-part-write-verdict-start c = let f = c .before .before .before .before .before .before .before .before .before .before .before .before .before .before .before .before .before .before .before .before .before .before .before .before .pre .0 .planned .plan-in .places .few in let l = c .before .before .before .before .before .before .before .before .before .before .before .before .before .before .before .before .before .before .before .before .before .before .before .before .pre .0 .opened .long in search needs
+part-write-verdict-start c = let f = c .before .before .before .before .before .before .before .before .before .before .before .before .before .before .before .before .before .before .before .before .before .before .before .before .before .pre .0 .planned .plan-in .places .few in let l = c .before .before .before .before .before .before .before .before .before .before .before .before .before .before .before .before .before .before .before .before .before .before .before .before .before .pre .0 .opened .long in search needs
 
 part-write-verdict-end : tie.Need-part-write-verdict-end Inv-loop μ-loop
-part-write-verdict-end c = let f = c .before .before .before .before .before .before .before .before .before .before .before .before .before .before .before .before .before .before .before .before .before .before .before .before .pre .0 .planned .plan-in .places .few in let l = c .before .before .before .before .before .before .before .before .before .before .before .before .before .before .before .before .before .before .before .before .before .before .before .before .pre .0 .opened .long in search needs
+part-write-verdict-end c = let f = c .before .before .before .before .before .before .before .before .before .before .before .before .before .before .before .before .before .before .before .before .before .before .before .before .before .pre .0 .planned .plan-in .places .few in let l = c .before .before .before .before .before .before .before .before .before .before .before .before .before .before .before .before .before .before .before .before .before .before .before .before .before .pre .0 .opened .long in search needs
 
 array-share-prefix-numbers : tie.Need-array-share-prefix-numbers Inv-loop μ-loop
 array-share-prefix-numbers c = numbers-wide (c .before .before .before .before .before .before .before .before .before .before .before .before .before)
 
 slice-aggregate-write-verdict-2 : tie.Need-slice-aggregate-write-verdict-2 Inv-loop μ-loop
-slice-aggregate-write-verdict-2 c = let e = c .before .before .before .before .before .before .before .before .before .before .before .before .before .before in sym (length-take-le (e .enables-of .result .count) (e .enables-of .result .numbers) (numbers-wide e))
+slice-aggregate-write-verdict-2 c = let e = c .before .before .before .before .before .before .before .before .before .before .before .before .before .before in sym (length-take-le (e .enables-of .result) (e .enables-of .last .1 .1 .1 .0) (numbers-wide e))
 
 add-write-verdict : tie.Need-add-write-verdict Inv-loop μ-loop
-add-write-verdict c = let h = heads-small (c .before .before .before .before .before .before .before .before .before .before .before .before .before .before .before .before .before .before .before .before .before .before .before .before .before .before) in let l = c .before .before .before .before .before .before .before .before .before .before .before .before .before .before .before .before .before .before .before .before .before .before .before .before .before .before .pre .0 .opened .long in record { fits = omega arith }
+add-write-verdict c = let h = heads-small (c .before .before .before .before .before .before .before .before .before .before .before .before .before .before .before .before .before .before .before .before .before .before .before .before .before .before .before) in let l = c .before .before .before .before .before .before .before .before .before .before .before .before .before .before .before .before .before .before .before .before .before .before .before .before .before .before .before .pre .0 .opened .long in record { fits = omega arith }
 
 mul-write-verdict-2 : tie.Need-mul-write-verdict-2 Inv-loop μ-loop
-mul-write-verdict-2 c = let h = heads-small (c .before .before .before .before .before .before .before .before .before .before .before .before .before .before .before .before .before .before .before .before .before .before .before .before .before .before) in let l = c .before .before .before .before .before .before .before .before .before .before .before .before .before .before .before .before .before .before .before .before .before .before .before .before .before .before .pre .0 .opened .long in record { fits = omega arith }
+mul-write-verdict-2 c = let h = heads-small (c .before .before .before .before .before .before .before .before .before .before .before .before .before .before .before .before .before .before .before .before .before .before .before .before .before .before .before) in let l = c .before .before .before .before .before .before .before .before .before .before .before .before .before .before .before .before .before .before .before .before .before .before .before .before .before .before .before .pre .0 .opened .long in record { fits = omega arith }
 
 shared-slice-read-write-verdict : tie.Need-shared-slice-read-write-verdict Inv-loop μ-loop
-shared-slice-read-write-verdict c = let f = c .before .before .before .before .before .before .before .before .before .before .before .before .before .before .before .before .before .before .before .before .before .before .before .before .before .before .before .pre .0 .planned .plan-in .places .few in let l = c .before .before .before .before .before .before .before .before .before .before .before .before .before .before .before .before .before .before .before .before .before .before .before .before .before .before .before .pre .0 .opened .long in search needs
+shared-slice-read-write-verdict c = let f = c .before .before .before .before .before .before .before .before .before .before .before .before .before .before .before .before .before .before .before .before .before .before .before .before .before .before .before .before .pre .0 .planned .plan-in .places .few in let l = c .before .before .before .before .before .before .before .before .before .before .before .before .before .before .before .before .before .before .before .before .before .before .before .before .before .before .before .before .pre .0 .opened .long in search needs
 
 array-share-prefix-raw : tie.Need-array-share-prefix-raw Inv-loop μ-loop
-array-share-prefix-raw c = let f = c .before .before .before .before .before .before .before .before .before .before .before .before .before .before .before .before .before .before .before .before .before .before .before .before .before .before .before .pre .0 .planned .plan-in .places .few in omega (arith, c .before .before .before .before .before .before .loop .inv .1 .wide)
+array-share-prefix-raw c = let f = c .before .before .before .before .before .before .before .before .before .before .before .before .before .before .before .before .before .before .before .before .before .before .before .before .before .before .before .before .pre .0 .planned .plan-in .places .few in omega (arith, c .before .before .before .before .before .before .loop .inv .1 .wide)
 
 slice-aggregate-write-verdict-3 : tie.Need-slice-aggregate-write-verdict-3 Inv-loop μ-loop
-slice-aggregate-write-verdict-3 c = let s = c .before .before .before .before .before .before .before .before .before .before .before .before .before .before .before .before .before .before .before .before .before .before .before .before .before .before .before .before in let l = c .before .before .before .before .before .before .before .loop in sym (length-take-le (length (s .args .order .now)) (l .raw) (omega (arith, l .inv .1 .wide, s .pre .0 .planned .plan-in .places .few)))
+slice-aggregate-write-verdict-3 c = let s = c .before .before .before .before .before .before .before .before .before .before .before .before .before .before .before .before .before .before .before .before .before .before .before .before .before .before .before .before .before in let l = c .before .before .before .before .before .before .before .loop in sym (length-take-le (length (s .args .order .now)) (l .raw) (omega (arith, l .inv .1 .wide, s .pre .0 .planned .plan-in .places .few)))
 
 mul-write-verdict-3 : tie.Need-mul-write-verdict-3 Inv-loop μ-loop
-mul-write-verdict-3 c = let i = room (c .before .before .before .before .before) in let h = out-small (c .before .before .before .before .before .before .before .before .before .before .before .before .before .before .before .before .before .before .before .before .before .before .before .before .before .before .before .before) in record { fits = omega arith }
+mul-write-verdict-3 c = let i = room (c .before .before .before .before .before) in let h = out-small (c .before .before .before .before .before .before .before .before .before .before .before .before .before .before .before .before .before .before .before .before .before .before .before .before .before .before .before .before .before) in record { fits = omega arith }
 
 sub-write-verdict-2 : tie.Need-sub-write-verdict-2 Inv-loop μ-loop
 sub-write-verdict-2 c = omega arith
@@ -273,7 +276,7 @@ part-write-verdict-end-2 c = let i = room (c .before .before .before .before .be
 
 write-verdict-requires : tie.Need-write-verdict-requires Inv-loop μ-loop
 write-verdict-requires c κs =
-    let s = c .before .before .before .before .before .before .before .before .before .before .before .before .before .before .before .before .before .before .before .before .before .before .before .before .before .before .before .before .before in
+    let s = c .before .before .before .before .before .before .before .before .before .before .before .before .before .before .before .before .before .before .before .before .before .before .before .before .before .before .before .before .before .before in
     let a = c .before .before .before .before .before .before .before .before in
     let i = room (c .before .before .before .before .before .before) in
     let k = wide-out a in
@@ -283,29 +286,29 @@ write-verdict-requires c κs =
     (t .0, t .1, t .2, t .3, mid-len (l .at) (l .at + (length (s .args .order .now) + 4)) (l .out) (omega arith) ∙ omega (arith, length-take-le (length (s .args .order .now)) (l .raw) (omega (arith, l .inv .1 .wide, s .pre .0 .planned .plan-in .places .few))), file-short (s .args .file .now) (s .args .heads .now) (length (s .args .order .now)) (s .args .c) (s .pre .0 .opened), s .pre .1)
 
 add-count : tie.Need-add-count Inv-loop μ-loop
-add-count c = let l = c .before .before .before .before .before .before .before .before .before .before .loop in let i = room (c .before .before .before .before .before .before .before .before) in let k = l .inv .0 .few in let h = out-small (c .before .before .before .before .before .before .before .before .before .before .before .before .before .before .before .before .before .before .before .before .before .before .before .before .before .before .before .before .before .before .before) in record { fits = omega arith }
+add-count c = let l = c .before .before .before .before .before .before .before .before .before .before .loop in let i = room (c .before .before .before .before .before .before .before .before) in let k = l .inv .0 .few in let h = out-small (c .before .before .before .before .before .before .before .before .before .before .before .before .before .before .before .before .before .before .before .before .before .before .before .before .before .before .before .before .before .before .before .before) in record { fits = omega arith }
 
 array-borrow-prefix-tuple : tie.Need-array-borrow-prefix-tuple Inv-loop μ-loop
-array-borrow-prefix-tuple c = let f = c .before .before .before .before .before .before .before .before .before .before .before .before .before .before .before .before .before .before .before .before .before .before .before .before .before .before .before .before .before .before .before .pre .0 .planned .plan-in .places .few in omega (arith, c .before .before .before .before .before .before .before .before .before .before .loop .inv .1 .begun .long)
+array-borrow-prefix-tuple c = let f = c .before .before .before .before .before .before .before .before .before .before .before .before .before .before .before .before .before .before .before .before .before .before .before .before .before .before .before .before .before .before .before .before .pre .0 .planned .plan-in .places .few in omega (arith, c .before .before .before .before .before .before .before .before .before .before .loop .inv .1 .begun .long)
 
 slice-aggregate-step : tie.Need-slice-aggregate-step Inv-loop μ-loop
-slice-aggregate-step c = let s = c .before .before .before .before .before .before .before .before .before .before .before .before .before .before .before .before .before .before .before .before .before .before .before .before .before .before .before .before .before .before .before .before in let l = c .before .before .before .before .before .before .before .before .before .before .before .loop in sym (length-take-le (length (s .args .order .now)) (l .tuple) (omega (arith, l .inv .1 .begun .long, s .pre .0 .planned .plan-in .places .few)))
+slice-aggregate-step c = let s = c .before .before .before .before .before .before .before .before .before .before .before .before .before .before .before .before .before .before .before .before .before .before .before .before .before .before .before .before .before .before .before .before .before in let l = c .before .before .before .before .before .before .before .before .before .before .before .loop in sym (length-take-le (length (s .args .order .now)) (l .tuple) (omega (arith, l .inv .1 .begun .long, s .pre .0 .planned .plan-in .places .few)))
 
 array-borrow-prefix-raw-2 : tie.Need-array-borrow-prefix-raw-2 Inv-loop μ-loop
-array-borrow-prefix-raw-2 c = let f = c .before .before .before .before .before .before .before .before .before .before .before .before .before .before .before .before .before .before .before .before .before .before .before .before .before .before .before .before .before .before .before .before .pre .0 .planned .plan-in .places .few in omega (arith, c .before .before .before .before .before .before .before .before .before .before .before .loop .inv .1 .wide)
+array-borrow-prefix-raw-2 c = let f = c .before .before .before .before .before .before .before .before .before .before .before .before .before .before .before .before .before .before .before .before .before .before .before .before .before .before .before .before .before .before .before .before .before .pre .0 .planned .plan-in .places .few in omega (arith, c .before .before .before .before .before .before .before .before .before .before .before .loop .inv .1 .wide)
 
 slice-aggregate-step-2 : tie.Need-slice-aggregate-step-2 Inv-loop μ-loop
-slice-aggregate-step-2 c = let s = c .before .before .before .before .before .before .before .before .before .before .before .before .before .before .before .before .before .before .before .before .before .before .before .before .before .before .before .before .before .before .before .before .before in let l = c .before .before .before .before .before .before .before .before .before .before .before .before .loop in sym (length-take-le (length (s .args .order .now)) (l .raw) (omega (arith, l .inv .1 .wide, s .pre .0 .planned .plan-in .places .few)))
+slice-aggregate-step-2 c = let s = c .before .before .before .before .before .before .before .before .before .before .before .before .before .before .before .before .before .before .before .before .before .before .before .before .before .before .before .before .before .before .before .before .before .before in let l = c .before .before .before .before .before .before .before .before .before .before .before .before .loop in sym (length-take-le (length (s .args .order .now)) (l .raw) (omega (arith, l .inv .1 .wide, s .pre .0 .planned .plan-in .places .few)))
 
 step-requires : tie.Need-step-requires Inv-loop μ-loop
-step-requires c κs = let s = c .before .before .before .before .before .before .before .before .before .before .before .before .before .before .before .before .before .before .before .before .before .before .before .before .before .before .before .before .before .before .before .before .before in (s .pre .0 .planned .plan-in, s .pre .2, c .before .before .before .before .before .before .before .before .before .before .before .before .loop .inv .1 .stands, s .pre .0 .fielded)
+step-requires c κs = let s = c .before .before .before .before .before .before .before .before .before .before .before .before .before .before .before .before .before .before .before .before .before .before .before .before .before .before .before .before .before .before .before .before .before .before in (s .pre .0 .planned .plan-in, s .pre .2, c .before .before .before .before .before .before .before .before .before .before .before .before .loop .inv .1 .stands, s .pre .0 .fielded)
 
 loop-less : tie.Need-loop-less Inv-loop μ-loop
 loop-less c = let a = c .before .before .before .before .before .before .before .before .before .before .before .before .before .before .before in let m = next-fewer (a .loop .count) _ _ _ (next (c .before .before .before .before .before .before .before .before .before .before .before .before .before .before)) in omega arith
 
 loop-again : tie.Need-loop-again Inv-loop μ-loop
 loop-again c =
-    let s = c .before .before .before .before .before .before .before .before .before .before .before .before .before .before .before .before .before .before .before .before .before .before .before .before .before .before .before .before .before .before .before .before .before .before .before .before in
+    let s = c .before .before .before .before .before .before .before .before .before .before .before .before .before .before .before .before .before .before .before .before .before .before .before .before .before .before .before .before .before .before .before .before .before .before .before .before .before in
     let a = c .before .before .before .before .before .before .before .before .before .before .before .before .before .before .before in
     let l = a .loop in
     let e = c .before .before .before .before .before .before .before .before .before .before .before .before .before .before .before .before .before .before .before .before .before .before .before .before in
@@ -343,6 +346,7 @@ write-page-spec =
     sub-enables-of
     part-enables-of-start
     part-enables-of-end
+    slice-aggregate-enables-of
     enables-of-requires
     first-of-requires
     start-tuple-requires

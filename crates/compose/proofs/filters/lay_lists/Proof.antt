@@ -1,10 +1,12 @@
 -- `compose::filters::lay_lists` meets its contract. The invariant: the lists of the first k - 1 fields are laid, and there is room for the rest.
-use mathlib.Core.Path.{_∙_, _≡_, refl}
-use Prim.Native.Nat.{_+_, _-_}
+use mathlib.Core.List.{List}
+use mathlib.Core.Path.{_∙_, _≡_, ap, subst, sym}
+use Prim.Native.Nat.{_+_, _-_, ℕ}
 use native.Mathlib.Omega.{arith}
 use borrow.Author.Needs.{needs}
 use borrow.Rule.Slice.PartMut.{putMid, same-len-mid}
 use lib.ListN.{drop, length, length-set, set}
+use lib.Seq.{lt-length-set}
 use Rattle.compose.specs.Code.{FieldIn, constraintsIn}
 use Rattle.compose.proofs.Laid.{Laid, laid-inside, laid-none, laid-places, laid-room, laid-scratch, laid-turn}
 use Rattle.compose.proofs.Positions.{head-turn}
@@ -19,8 +21,11 @@ abbrev μ-loop : tie.MeasureT-loop
 
 loop-holds : tie.Need-loop-holds Inv-loop μ-loop
 loop-holds c =
-    let s = c .before .before .before in
-    (laid-none (s .args .file .now) (s .args .fields .now) (constraintsIn (s .args .file .now) (s .args .constraints .now)) (s .args .scratch .now) (s .pre .3), refl)
+    let s = c .before .before .before .before in
+    let cs = constraintsIn (s .args .file .now) (s .args .constraints .now) in (
+      subst (λ (lists : List ℕ). Laid (s .args .file .now) (s .args .fields .now) cs (length (s .args .scratch .now)) (s .args .scratch .now) lists 0 1) (sym (s .pre .4)) (laid-none (s .args .file .now) (s .args .fields .now) cs (s .args .scratch .now) (s .pre .3)),
+      ap length (s .pre .4),
+    )
 
 sub-lay-list : tie.Need-sub-lay-list Inv-loop μ-loop
 sub-lay-list c = c .before .loop .inv .0 .first
@@ -42,20 +47,20 @@ sub-lay-list-2 c = c .before .before .before .loop .inv .0 .first
 
 mul-lay-list-3 : tie.Need-mul-lay-list-3 Inv-loop μ-loop
 mul-lay-list-3 c =
-    let s = c .before .before .before .before .before .before .before in
+    let s = c .before .before .before .before .before .before .before .before in
     let l = c .before .before .before .loop in
     let i = laid-inside (s .args .file .now) (s .args .fields .now) (constraintsIn (s .args .file .now) (s .args .constraints .now)) (length (s .args .scratch .now)) (l .scratch) (l .lists) (l .at) (l .k) (l .inv .0) in
     search needs
 
 sub-lay-list-3 : tie.Need-sub-lay-list-3 Inv-loop μ-loop
 sub-lay-list-3 c =
-    let s = c .before .before .before .before .before .before .before in
+    let s = c .before .before .before .before .before .before .before .before in
     let l = c .before .before .before .loop in
     laid-inside (s .args .file .now) (s .args .fields .now) (constraintsIn (s .args .file .now) (s .args .constraints .now)) (length (s .args .scratch .now)) (l .scratch) (l .lists) (l .at) (l .k) (l .inv .0)
 
 part-lay-list-start : tie.Need-part-lay-list-start Inv-loop μ-loop
 part-lay-list-start c =
-    let s = c .before .before .before .before .before .before .before in
+    let s = c .before .before .before .before .before .before .before .before in
     let l = c .before .before .before .loop in
     laid-inside (s .args .file .now) (s .args .fields .now) (constraintsIn (s .args .file .now) (s .args .constraints .now)) (length (s .args .scratch .now)) (l .scratch) (l .lists) (l .at) (l .k) (l .inv .0)
 
@@ -64,7 +69,7 @@ part-lay-list-end c = search needs
 
 lay-list-requires : tie.Need-lay-list-requires Inv-loop μ-loop
 lay-list-requires c κs =
-    let s = c .before .before .before .before .before .before .before .before in
+    let s = c .before .before .before .before .before .before .before .before .before in
     let l = c .before .before .before .before .loop in
     (head-turn (FieldIn (s .args .file .now)) (s .args .fields .now) (l .k) (s .pre .1) (l .inv .0 .first) (omega arith), s .pre .2, laid-room (s .args .file .now) (s .args .fields .now) (constraintsIn (s .args .file .now) (s .args .constraints .now)) (length (s .args .scratch .now)) (l .scratch) (l .lists) (l .at) (l .k) (l .inv .0) (omega arith))
 
@@ -74,26 +79,28 @@ sub-lists c = c .before .before .before .before .before .before .loop .inv .0 .f
 mul-lists : tie.Need-mul-lists Inv-loop μ-loop
 mul-lists c = search needs
 
-array-write-lists : tie.Need-array-write-lists Inv-loop μ-loop
-array-write-lists c = let e = c .before .before .before .before .before .before .before .before .before .before .pre .0 in omega arith
+slice-write-lists : tie.Need-slice-write-lists Inv-loop μ-loop
+slice-write-lists c = let e = c .before .before .before .before .before .before .before .before .before .before .before .pre .0 in let w = c .before .before .before .before .before .before .loop .inv .1 in omega arith
 
 add-lists : tie.Need-add-lists Inv-loop μ-loop
-add-lists c = let e = c .before .before .before .before .before .before .before .before .before .before .pre .0 in omega arith
+add-lists c = let e = c .before .before .before .before .before .before .before .before .before .before .before .pre .0 in omega arith
 
 mul-lists-2 : tie.Need-mul-lists-2 Inv-loop μ-loop
-mul-lists-2 c = let e = c .before .before .before .before .before .before .before .before .before .before .pre .0 in omega arith
+mul-lists-2 c = let e = c .before .before .before .before .before .before .before .before .before .before .before .pre .0 in omega arith
 
-array-write-lists-2 : tie.Need-array-write-lists-2 Inv-loop μ-loop
-array-write-lists-2 c = let e = c .before .before .before .before .before .before .before .before .before .before .pre .0 in omega arith
+slice-write-lists-2 : tie.Need-slice-write-lists-2 Inv-loop μ-loop
+slice-write-lists-2 c =
+    let l = c .before .before .before .before .before .before .loop in
+    lt-length-set (l .lists) (l .k - 1) (l .at) (let e = c .before .before .before .before .before .before .before .before .before .before .before .pre .0 in let w = l .inv .1 in omega arith)
 
 -- a turn's list, laid behind the others
 turned : (c : tie.After-scratch Inv-loop μ-loop)
-    → Laid (c .before .before .before .before .before .before .before .before .before .before .args .file .now) (c .before .before .before .before .before .before .before .before .before .before .args .fields .now) (constraintsIn (c .before .before .before .before .before .before .before .before .before .before .args .file .now) (c .before .before .before .before .before .before .before .before .before .before .args .constraints .now)) (length (c .before .before .before .before .before .before .before .before .before .before .args .scratch .now))
+    → Laid (c .before .before .before .before .before .before .before .before .before .before .before .args .file .now) (c .before .before .before .before .before .before .before .before .before .before .before .args .fields .now) (constraintsIn (c .before .before .before .before .before .before .before .before .before .before .before .args .file .now) (c .before .before .before .before .before .before .before .before .before .before .before .args .constraints .now)) (length (c .before .before .before .before .before .before .before .before .before .before .before .args .scratch .now))
     (putMid (c .before .before .before .before .before .before .loop .at) (length (c .before .before .before .before .before .before .loop .scratch) - c .before .before .before .before .before .before .loop .at) (c .before .before .before .before .before .before .loop .scratch) (c .before .lay-list .last .1 .1 .1 .1 .1 .0))
     (set (set (c .before .before .before .before .before .before .loop .lists) (c .before .before .before .before .before .before .loop .k - 1) (c .before .before .before .before .before .before .loop .at)) (31 + c .before .before .before .before .before .before .loop .k) (c .before .lay-list .result))
     (c .before .before .before .before .before .before .loop .at + c .before .lay-list .result) (c .before .before .before .before .before .before .loop .k + 1)
 turned c =
-    let s = c .before .before .before .before .before .before .before .before .before .before in
+    let s = c .before .before .before .before .before .before .before .before .before .before .before in
     let l = c .before .before .before .before .before .before .loop in
     let e = s .pre .0 in
     let n = length (l .scratch) - l .at in
@@ -113,26 +120,26 @@ loop-less c = omega arith
 
 loop-again : tie.Need-loop-again Inv-loop μ-loop
 loop-again c =
-    let s = c .before .before .before .before .before .before .before .before .before .before in
+    let s = c .before .before .before .before .before .before .before .before .before .before .before in
     let l = c .before .before .before .before .before .before .loop in
     (turned c, length-set (set (l .lists) (l .k - 1) (l .at)) (31 + l .k) (c .before .lay-list .result) ∙ length-set (l .lists) (l .k - 1) (l .at) ∙ l .inv .1)
 
 mul-clear : tie.Need-mul-clear Inv-loop μ-loop
 mul-clear c =
-    let s = c .before .before .before .before .before in
+    let s = c .before .before .before .before .before .before in
     let l = c .before .loop in
     let i = laid-inside (s .args .file .now) (s .args .fields .now) (constraintsIn (s .args .file .now) (s .args .constraints .now)) (length (s .args .scratch .now)) (l .scratch) (l .lists) (l .at) (l .k) (l .inv .0) in
     search needs
 
 sub-clear : tie.Need-sub-clear Inv-loop μ-loop
 sub-clear c =
-    let s = c .before .before .before .before .before in
+    let s = c .before .before .before .before .before .before in
     let l = c .before .loop in
     laid-inside (s .args .file .now) (s .args .fields .now) (constraintsIn (s .args .file .now) (s .args .constraints .now)) (length (s .args .scratch .now)) (l .scratch) (l .lists) (l .at) (l .k) (l .inv .0)
 
 part-clear-start : tie.Need-part-clear-start Inv-loop μ-loop
 part-clear-start c =
-    let s = c .before .before .before .before .before in
+    let s = c .before .before .before .before .before .before in
     let l = c .before .loop in
     laid-inside (s .args .file .now) (s .args .fields .now) (constraintsIn (s .args .file .now) (s .args .constraints .now)) (length (s .args .scratch .now)) (l .scratch) (l .lists) (l .at) (l .k) (l .inv .0)
 
@@ -144,13 +151,16 @@ clear-requires c κs = search needs
 
 same-length : tie.Need-same-length Inv-loop μ-loop
 same-length c =
-    let s = c .before .before .before .before .before .before .before .before in
+    let s = c .before .before .before .before .before .before .before .before .before in
     let l = c .before .before .before .before .loop in
     same-len-mid (l .at) (length (l .scratch) - l .at) (l .scratch) (c .before .clear .last .0) (c .before .clear .kept .0) ∙ l .inv .0 .long
 
+same-length-2 : tie.Need-same-length-2 Inv-loop μ-loop
+same-length-2 c = c .before .before .before .before .loop .inv .1 ∙ sym (ap length (c .before .before .before .before .before .before .before .before .before .pre .4))
+
 returns : tie.Need-returns Inv-loop μ-loop
 returns c =
-    let s = c .before .before .before .before .before .before .before .before in
+    let s = c .before .before .before .before .before .before .before .before .before in
     let l = c .before .before .before .before .loop in
     (laid-scratch (s .args .file .now) (s .args .fields .now) (constraintsIn (s .args .file .now) (s .args .constraints .now)) (length (s .args .scratch .now)) (l .scratch) (l .lists) (l .at) (l .k) (l .inv .0) (omega arith) (c .before .clear .last .0) (c .before .clear .ensures), laid-places (s .args .file .now) (s .args .fields .now) (constraintsIn (s .args .file .now) (s .args .constraints .now)) (length (s .args .scratch .now)) (l .scratch) (l .lists) (l .at) (l .k) (l .inv .0) (omega arith))
 
@@ -174,10 +184,10 @@ lay-lists-spec =
     lay-list-requires
     sub-lists
     mul-lists
-    array-write-lists
+    slice-write-lists
     add-lists
     mul-lists-2
-    array-write-lists-2
+    slice-write-lists-2
     add-at
     add-k
     loop-less
@@ -188,4 +198,5 @@ lay-lists-spec =
     part-clear-end
     clear-requires
     same-length
+    same-length-2
     returns)

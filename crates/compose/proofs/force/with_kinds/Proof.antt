@@ -17,10 +17,10 @@ use Rattle.compose.proofs.force.with_kinds.Statement.{statement}
 use Rattle.compose.proofs.force.with_kinds.Tie as tie
 
 abbrev Inv-loop : tie.InvT-loop
-Inv-loop file heads a b numbers₀ count₀ k₀ numbers count k = (1 ≤ k) × Picked file heads a b numbers₀ count₀ numbers count (k - 1)
+Inv-loop file heads a b before numbers₀ count₀ k₀ numbers count k = (1 ≤ k) × Picked file heads a b numbers₀ before numbers count (k - 1)
 
 abbrev μ-loop : tie.MeasureT-loop
-μ-loop file heads a b numbers₀ count₀ k₀ numbers count k = length heads - k
+μ-loop file heads a b before numbers₀ count₀ k₀ numbers count k = length heads - k
 
 -- the answer of a turn's test
 here : (c : tie.After-code-at Inv-loop μ-loop)
@@ -28,17 +28,17 @@ here : (c : tie.After-code-at Inv-loop μ-loop)
     ≡ (eqb (c .code-at .result) (c .before .before .before .before .before .before .before .args .a) || eqb (c .code-at .result) (c .before .before .before .before .before .before .before .args .b))
 here c = let s = c .before .before .before .before .before .before .before in sym (ap (λ (n : ℕ). eqb n (s .args .a) || eqb n (s .args .b)) (c .code-at .ensures))
 
-room : (c : tie.Then1 Inv-loop μ-loop) → c .before .before .before .before .loop .count < 256
+room : (c : tie.Then1 Inv-loop μ-loop) → c .before .before .before .before .loop .count < length (c .before .before .before .before .before .before .before .before .args .numbers .now)
 room c =
     let s = c .before .before .before .before .before .before .before .before in
     let l = c .before .before .before .before .loop in
-    picked-room (s .args .file .now) (s .args .heads .now) (s .args .a) (s .args .b) (s .args .list .numbers) (s .args .list .count) (l .numbers) (l .count) (l .k - 1) (l .inv .1) (s .pre .1) (omega arith) (here (c .before) ∙ c .if1 .taken)
+    picked-room (s .args .file .now) (s .args .heads .now) (s .args .a) (s .args .b) (s .args .numbers .now) (s .args .before) (l .numbers) (l .count) (l .k - 1) (l .inv .1) (s .pre .1) (omega arith) (here (c .before) ∙ c .if1 .taken)
 
 loop-holds : tie.Need-loop-holds Inv-loop μ-loop
 loop-holds c =
     let s = c .before .before .before in
     let p = s .pre .1 in
-    (omega arith, picked-start (s .args .file .now) (s .args .heads .now) (s .args .a) (s .args .b) (s .args .list .numbers) (s .args .list .count) (search needs) (omega arith))
+    (omega arith, picked-start (s .args .file .now) (s .args .heads .now) (s .args .a) (s .args .b) (s .args .numbers .now) (s .args .before) (omega arith))
 
 sub-code-at : tie.Need-sub-code-at Inv-loop μ-loop
 sub-code-at c = c .before .loop .inv .0
@@ -71,11 +71,11 @@ cast-numbers c =
     let l = c .before .before .before .before .loop in
     byte (s .args .heads .now) (l .k) (l .inv .0) (omega arith) (s .pre .2)
 
-array-write-numbers : tie.Need-array-write-numbers Inv-loop μ-loop
-array-write-numbers c = room c
+slice-write-numbers : tie.Need-slice-write-numbers Inv-loop μ-loop
+slice-write-numbers c = let r = room c in let w = c .before .before .before .before .loop .inv .1 .long in omega arith
 
 add-count : tie.Need-add-count Inv-loop μ-loop
-add-count c = let r = room c in omega arith
+add-count c = let r = room c in let w = c .before .before .before .before .loop .inv .1 .long in omega arith
 
 add-k : tie.Need-add-k Inv-loop μ-loop
 add-k c = omega arith
@@ -87,21 +87,24 @@ loop-again : tie.Need-loop-again Inv-loop μ-loop
 loop-again c =
     let s = c .before .before .before .before .before .before .before .before in
     let l = c .before .before .before .before .loop in
-    let p = Picked (s .args .file .now) (s .args .heads .now) (s .args .a) (s .args .b) (s .args .list .numbers) (s .args .list .count) (c .if1 .numbers) (c .if1 .count) in
+    let p = Picked (s .args .file .now) (s .args .heads .now) (s .args .a) (s .args .b) (s .args .numbers .now) (s .args .before) (c .if1 .numbers) (c .if1 .count) in
     let e : suc (l .k - 1) ≡ l .k + 1 - 1 = omega arith in (
       omega arith,
       subst p e
-          (picked-turn (s .args .file .now) (s .args .heads .now) (s .args .a) (s .args .b) (s .args .list .numbers) (s .args .list .count) (l .numbers) (l .count) (l .k - 1) (l .inv .1) (s .pre .1) (omega arith) (c .if1 .numbers) (c .if1 .count) _ (here (c .before))
+          (picked-turn (s .args .file .now) (s .args .heads .now) (s .args .a) (s .args .b) (s .args .numbers .now) (s .args .before) (l .numbers) (l .count) (l .k - 1) (l .inv .1) (s .pre .1) (omega arith) (c .if1 .numbers) (c .if1 .count) _ (here (c .before))
           (⊎-elim (λ w. inl (w .0 .taken, w .1, w .2)) (λ w. inr (w .0 .left, w .1, w .2)) (c .if1 .came))),
     )
+
+same-length : tie.Need-same-length Inv-loop μ-loop
+same-length c = c .before .loop .inv .1 .long
 
 returns : tie.Need-returns Inv-loop μ-loop
 returns c =
     let s = c .before .before .before .before .before in
     let l = c .before .loop in
     let p = l .inv .1 in
-    let e = picked-end (s .args .file .now) (s .args .heads .now) (s .args .a) (s .args .b) (s .args .list .numbers) (s .args .list .count) (l .numbers) (l .count) (l .k - 1) p (omega arith) in
-    (e .0, (e .1, (p .kept, p .kinds)))
+    let e = picked-end (s .args .file .now) (s .args .heads .now) (s .args .a) (s .args .b) (s .args .numbers .now) (s .args .before) (l .numbers) (l .count) (l .k - 1) p (omega arith) in
+    (e .0, (e .1, (p .kept, (p .kinds, p .rest))))
 
 pub with-kinds-spec : {M : Type 1} → statement M
 with-kinds-spec =
@@ -116,9 +119,10 @@ with-kinds-spec =
     code-at-requires
     sub-numbers
     cast-numbers
-    array-write-numbers
+    slice-write-numbers
     add-count
     add-k
     loop-less
     loop-again
+    same-length
     returns)

@@ -6,29 +6,24 @@ use Rattle.registry.proofs.Digits.{raised-below, raised-over, word-no, 
 use Rattle.registry.proofs.project.raise.Statement.{statement}
 use Rattle.registry.proofs.project.raise.Tie as tie
 
-sub-power : tie.Need-sub-power
-sub-power c = search needs
+powers-requires : tie.Need-powers-requires
+powers-requires c κs = search needs
 
-power-requires : tie.Need-power-requires
-power-requires c κs = search needs
+small : (c : tie.Then1) → c .before .before .before .args .v * 2 ^ c .before .before .before .args .k < 2 ^ 63
+small c = let s = c .before .before .before in raised-below (s .args .v) (s .args .k) (s .pre) (rw (c .before .before .powers .ensures .1) at (c .if1 .taken))
 
-power-requires-2 : tie.Need-power-requires-2
-power-requires-2 c κs = search needs
-
-small : (c : tie.Then1) → c .before .before .args .v * 2 ^ c .before .before .args .k < 2 ^ 63
-small c = let s = c .before .before in raised-below (s .args .v) (s .args .k) (s .pre) (rw (c .before .power .ensures) at (c .if1 .taken))
-
-mul-t7 : tie.Need-mul-t7
-mul-t7 c = rw (c .power2 .ensures) (omega (arith, small (c .before)))
+mul-t5 : tie.Need-mul-t5
+mul-t5 c = rw (c .before .before .before .powers .ensures .0) (omega (arith, small (c .before)))
 
 returns : tie.Need-returns
-returns c = let s = c .before .before .before in rw (c .power2 .ensures) (word-yes (s .args .v * 2 ^ s .args .k) (small (c .before)))
+returns c =
+    let s = c .before .before .before .before in
+    rw (c .before .before .before .powers .ensures .0) (word-yes (s .args .v * 2 ^ s .args .k) (small (c .before)))
 
 returns-2 : tie.Need-returns-2
 returns-2 c =
-    let s = c .before .before in
-    word-no (s .args .v * 2 ^ s .args .k) (raised-over (s .args .v) (s .args .k) (s .pre) (rw (c .before .power .ensures) at (c .if1 .left)))
+    let s = c .before .before .before in
+    word-no (s .args .v * 2 ^ s .args .k) (raised-over (s .args .v) (s .args .k) (s .pre) (rw (c .before .before .powers .ensures .1) at (c .if1 .left)))
 
 pub raise-spec : {M : Type 1} → statement M
-raise-spec =
-    tie.close (tie.spec sub-power power-requires power-requires-2 mul-t7 returns returns-2)
+raise-spec = tie.close (tie.spec powers-requires mul-t5 returns returns-2)
