@@ -466,8 +466,67 @@ fn orders() -> Vec<Vec<u8>> {
     all
 }
 
+/// A map onto the last field: each of so many keys has two children, spread over so many values; the keys after them are none.
+fn mapped(keys: i64, children: i64, child: &[Six]) -> Vec<u8> {
+    let mut all = vec![(FIELD, 0, 1, 1, keys + 20, 0)];
+    all.extend(child);
+    all.push((CROSS, 0, 1, 0, 0, 0));
+    for k in 0..keys {
+        for i in 0..2 {
+            let value = (k * 7 + i * children / 2) % children + 1;
+            all.push((PAIR, 0, 0, k + 1, value, 0));
+        }
+    }
+    all.push((KEY, 0, 0, 1, 0, 0));
+    all.push(SUMMED);
+    file(&all)
+}
+
+/// Lengths at which the code takes another way: tables of 65,536 cells, maps of 8 and 16 members, oneofs of 32 items, lists of 64 values.
+fn lengths() -> Vec<Vec<u8>> {
+    let mut all = Vec::new();
+    for (keys, children) in [(236, 256), (236, 257), (280, 300), (180, 500)] {
+        all.push(mapped(keys, children, &[(FIELD, 1, 1, 1, children, 0)]));
+    }
+    // The same over lists that do not ascend, or that repeat.
+    for order in [-1, 0, 1] {
+        let mut child = vec![(FIELD, 1, 2, 0, 0, 0)];
+        for i in 0..400 {
+            let value = match order {
+                -1 => 400 - i,
+                0 => 1 + i * 7 % 400,
+                _ => 1 + i / 2 * 2,
+            };
+            child.push((VALUE, 1, 0, value, 0, 0));
+        }
+        all.push(mapped(180, 400, &child));
+    }
+    for members in [7, 8, 9, 15, 16, 17] {
+        let mut after = vec![(CROSS, 0, 1, 0, 0, 0)];
+        after.extend((0..members).map(|i| (PAIR, 0, 0, 1 + i % 5, 1 + i % 4, 0)));
+        after.extend([(NEQ, 0, 1, 0, 0, 0), SUMMED]);
+        all.push(ranges(&[6, 4], &after));
+        all.push(ranges(&[6, 4, 3], &after));
+    }
+    for (items, values, first) in [
+        (32, 65, 0),
+        (33, 64, 0),
+        (33, 65, 0),
+        (40, 200, -20),
+        (40, 200, 300),
+        (900, 2000, 1),
+    ] {
+        let mut after = vec![(ONEOF, 0, 0, 0, 0, 0)];
+        after.extend((0..items).map(|i| (ITEM, 0, 0, first + i * 7 % 97 * 3, 0, 0)));
+        after.extend([(LE, 0, 0, values - 3, 0, 0), SUMMED]);
+        all.push(ranges(&[values], &after));
+    }
+    all
+}
+
 pub fn boundaries() -> Vec<Vec<u8>> {
     let mut all = bench();
+    all.extend(lengths());
     all.extend(scales());
     all.extend(packings());
     all.extend(sizes());

@@ -232,12 +232,19 @@ module _ (file : List ℕ) where
   unfolding decoded specOf
   product-whole = refl
 
+  product-from : (i : ℕ) → i < length file / 32 → productFrom i ≡ factorAt (recordsOf file) (recordAt file i) i * productFrom (i + 1)
+  product-from i h = rw (add-one i, records-from file i h) (product-cons (recordAt file i) (drop (suc i) (recordsOf file)))
+
   -- A turn: t takes record i's factor, and is capped.
   pub product-turn : (t i : ℕ) → i < length file / 32 → capped (capped (t * factorAt (recordsOf file) (recordAt file i) i) * productFrom (i + 1)) ≡ capped (t * productFrom i)
   product-turn t i h =
       let f = factorAt (recordsOf file) (recordAt file i) i in
-      capped-times (t * f) (productFrom (i + 1))
-      ∙ ap capped (mul-assoc t f (productFrom (i + 1)) ∙ ap (λ (n : ℕ). t * n) (rw (add-one i, records-from file i h) (sym (product-cons (recordAt file i) (drop (suc i) (recordsOf file))))))
+      capped-times (t * f) (productFrom (i + 1)) ∙ ap capped (mul-assoc t f (productFrom (i + 1)) ∙ ap (λ (n : ℕ). t * n) (sym (product-from i h)))
+
+  -- A turn at what is no field: t stays.
+  pub product-pass : (t i : ℕ) → i < length file / 32 → isField (recordAt file i .kind) ≡ false → capped (t * productFrom (i + 1)) ≡ capped (t * productFrom i)
+  product-pass t i h e =
+      ap (λ (n : ℕ). capped (t * n)) (sym (product-from i h ∙ ap (λ (f : ℕ). f * productFrom (i + 1)) (factor-other (recordsOf file) (recordAt file i) i e) ∙ one-mul (productFrom (i + 1))))
 
   pub product-end : (t i : ℕ) → t ≤ 1000000001 → length file / 32 ≤ i → capped (t * productFrom i) ≡ t
   product-end t i l h = rw (records-end file i h) (ap capped (mul-one t) ∙ capped-stays t l)

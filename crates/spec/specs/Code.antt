@@ -7,7 +7,7 @@ use Prim.Native.Nat.{ℕ, zero, suc, _+_, _-_, _*_, _/_, _^_, _≤_}
 use lib.Dec.{eqb, leb, ltb}
 use lib.Signed.{ltZ}
 use Rattle.lists.specs.Integers.{eqZ}
-use Rattle.lists.specs.Lists.{any, product}
+use Rattle.lists.specs.Lists.{any, product, upto}
 use lib.IntN.{ℤ, pos, natAbs}
 use lib.ListN.{length, getD, take, drop}
 use Rattle.spec.specs.Domain.{domain, firstMultiple, howMany, stepOf}
@@ -73,6 +73,14 @@ codeRow w = record { list = w .list; a = codeUse (w .a); b = codeUse (w .b); p =
 -- The rows of the code's table: kinds 0 to 33, then a field of form 1 and of form 2.
 unfoldable pub tableRow : ℕ → kinds.Row
 tableRow n = cond (eqb n 34) (fieldRow 1) (cond (eqb n 35) (fieldRow 2) (rowOf (kindOf n) 0))
+
+-- A row as one number: the list, and behind it four bits for each use.
+abbrev pub packRow : code.Row → ℕ
+packRow w = w .list * 0x100000 + w .a * 0x10000 + w .b * 0x1000 + w .p * 0x100 + w .q * 0x10 + w .r
+
+-- The numbers of the code's table.
+unfoldable pub tableWords : List ℕ
+tableWords = map (λ n. packRow (codeRow (tableRow n))) (upto 36)
 
 -- ---- domains
 abbrev pub psOf : List Record → List ℤ

@@ -13,7 +13,7 @@ use crate::judge::stray_byte;
 use crate::judge::unknown_kind;
 use crate::kinds::Class;
 use crate::kinds::class_of;
-use crate::kinds::row_of;
+use crate::kinds::row_in;
 use crate::records::Record;
 ghost use mathlib.Core.Path.{_≡_};
 ghost use mathlib.Core.Bool.{true, false};
@@ -21,7 +21,7 @@ ghost use Prim.Native.Nat.{_<_};
 ghost use Rattle.spec.specs.Kind.{kindOf, isMember};
 ghost use Rattle.spec.specs.Record.{recordsOf};
 ghost use Rattle.spec.specs.Refusal.{offScale, blankField, headTests, memberTests, belongs, listFault, firstTrue, misfiledNumber};
-ghost use Rattle.spec.specs.Code.{asRecord, asContext};
+ghost use Rattle.spec.specs.Code.{asRecord, asContext, tableWords};
 
 // 8: the domain of a field without a list is empty.
 fn blank_field(h: Record) -> bool
@@ -43,13 +43,14 @@ fn blank_field(h: Record) -> bool
 }
 
 // A head, after so many fields and constraints: the lowest number from 2 to 8.
-pub(crate) fn head_fault(h: Record, c: Context) -> u8
+pub(crate) fn head_fault(rows: &[u32], h: Record, c: Context) -> u8
+    requires { ⌜ now rows ≡ tableWords ⌝ }
     ensures { λ r. ⌜ r ≡ firstTrue 2 (headTests (kindOf (h .code)) (asContext c) (asRecord h)) ⌝ }
 {
     if unknown_kind(h) {
         return 2;
     }
-    let w = row_of(h.code, h.b);
+    let w = row_in(rows, h.code, h.b);
     if stray_by(w, h) {
         return 3;
     }
@@ -72,21 +73,21 @@ pub(crate) fn head_fault(h: Record, c: Context) -> u8
 }
 
 // Head h takes the record m.
-pub(crate) fn belongs_to(h: Record, m: Record) -> bool
-    requires { ⌜ isMember (kindOf (m .code)) ≡ true ⌝ }
+pub(crate) fn belongs_to(rows: &[u32], h: Record, m: Record) -> bool
+    requires { ⌜ (isMember (kindOf (m .code)) ≡ true) × (now rows ≡ tableWords) ⌝ }
     ensures { λ r. ⌜ r ≡ belongs (asRecord h) (asRecord m) ⌝ }
 {
-    let w = row_of(h.code, h.b);
-    let v = row_of(m.code, m.b);
+    let w = row_in(rows, h.code, h.b);
+    let v = row_in(rows, m.code, m.b);
     w.list == v.list
 }
 
 // A member m that head h takes, after so many fields and the members before it: the lowest number from 3 to 9.
-pub(crate) fn member_fault(h: Record, fields: usize, before: &[u8], m: Record) -> u8
-    requires { ⌜ (m .a < 256) × (m .b < 256) ⌝ }
+pub(crate) fn member_fault(rows: &[u32], h: Record, fields: usize, before: &[u8], m: Record) -> u8
+    requires { ⌜ (m .a < 256) × (m .b < 256) × (now rows ≡ tableWords) ⌝ }
     ensures { λ r. ⌜ r ≡ firstTrue 2 (memberTests (kindOf (m .code)) fields (asRecord h) (recordsOf (now (before .entry))) (asRecord m)) ⌝ }
 {
-    let w = row_of(m.code, m.b);
+    let w = row_in(rows, m.code, m.b);
     if stray_by(w, m) {
         return 3;
     }
@@ -110,10 +111,11 @@ pub(crate) fn member_fault(h: Record, fields: usize, before: &[u8], m: Record) -
 }
 
 // A member that its head does not take, or that no head stands before: 3 or 4.
-pub(crate) fn misfiled_fault(m: Record) -> u8
+pub(crate) fn misfiled_fault(rows: &[u32], m: Record) -> u8
+    requires { ⌜ now rows ≡ tableWords ⌝ }
     ensures { λ r. ⌜ r ≡ misfiledNumber (asRecord m) ⌝ }
 {
-    if stray_byte(m) {
+    if stray_byte(rows, m) {
         return 3;
     }
     4

@@ -6,7 +6,7 @@ use crate::kinds::OWN;
 use crate::kinds::Row;
 use crate::kinds::UNUSED;
 use crate::kinds::class_of;
-use crate::kinds::row_of;
+use crate::kinds::row_in;
 use crate::kinds::section_of;
 use crate::records::Record;
 ghost use mathlib.Core.Path.{_≡_};
@@ -15,7 +15,7 @@ ghost use lib.Signed.{ltZ};
 ghost use Rattle.lists.specs.Integers.{eqZ};
 ghost use Rattle.spec.specs.Kind.{kindOf};
 ghost use Rattle.spec.specs.Refusal.{unknownKind, strayByte, overfull, onScale};
-ghost use Rattle.spec.specs.Code.{asRecord, asContext, strayCode, dueCode, orderCode, namedCode, scaledCode};
+ghost use Rattle.spec.specs.Code.{asRecord, asContext, tableWords, strayCode, dueCode, orderCode, namedCode, scaledCode};
 
 // Where a head stands: how many fields and constraints are before it, and the section that was reached: 0 fields, 1 constraints, 2 projector.
 pub struct Context {
@@ -62,10 +62,11 @@ pub(crate) fn stray_by(w: Row, h: Record) -> bool
 }
 
 // The same with the row looked up.
-pub(crate) fn stray_byte(h: Record) -> bool
+pub(crate) fn stray_byte(rows: &[u32], h: Record) -> bool
+    requires { ⌜ now rows ≡ tableWords ⌝ }
     ensures { λ r. ⌜ r ≡ strayByte (kindOf (h .code)) (asRecord h) ⌝ }
 {
-    stray_by(row_of(h.code, h.b), h)
+    stray_by(row_in(rows, h.code, h.b), h)
 }
 
 // 4: a is not the number due.

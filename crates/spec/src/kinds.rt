@@ -2,7 +2,7 @@
 ghost use mathlib.Core.Path.{_≡_};
 ghost use Prim.Native.Nat.{_<_};
 ghost use Rattle.spec.specs.Kind.{kindOf, rowOf, isMember, sectionOf};
-ghost use Rattle.spec.specs.Code.{classOf, tableRow, codeRow};
+ghost use Rattle.spec.specs.Code.{classOf, tableRow, tableWords, codeRow};
 
 // What a record is.
 pub enum Class {
@@ -77,7 +77,7 @@ pub struct Row {
 }
 
 // A row for each kind from 0 to 33, kind 1 being a field of form 0; then fields of form 1 and of form 2. In hexadecimal: the list, and behind it a digit each for a, b, p, q, r.
-const ROWS: [u32; 36] = [
+pub(crate) const ROWS: [u32; 36] = [
     0x00_00000,
     0x00_31002, // field, form 0
     0x01_30100, // value
@@ -149,6 +149,14 @@ pub fn row_of(code: u8, form: usize) -> Row
     ensures { λ r. ⌜ r ≡ codeRow (rowOf (kindOf code) form) ⌝ }
 {
     let rows = ROWS;
+    row_in(&rows, code, form)
+}
+
+// The same, of the table lent.
+pub(crate) fn row_in(rows: &[u32], code: u8, form: usize) -> Row
+    requires { ⌜ now rows ≡ tableWords ⌝ }
+    ensures { λ r. ⌜ r ≡ codeRow (rowOf (kindOf code) form) ⌝ }
+{
     let k = row_number(code, form);
     let w = rows[k];
     Row {

@@ -7,6 +7,7 @@ use crate::faults::member_fault;
 use crate::faults::misfiled_fault;
 use crate::judge::Context;
 use crate::kinds::Class;
+use crate::kinds::ROWS;
 use crate::kinds::class_of;
 use crate::kinds::is_member;
 use crate::records::Record;
@@ -19,7 +20,7 @@ ghost use lib.ListN.{length};
 ghost use Rattle.spec.specs.Kind.{kindOf, isMember};
 ghost use Rattle.spec.specs.Record.{recordsOf, recordAt};
 ghost use Rattle.spec.specs.Refusal.{afterHead, recordsFault};
-ghost use Rattle.spec.specs.Code.{asRecord, asContext, asFault, leftAt, afterTurn, turnGood, Reached, Counted, stateContext};
+ghost use Rattle.spec.specs.Code.{asRecord, asContext, asFault, tableWords, leftAt, afterTurn, turnGood, Reached, Counted, stateContext};
 
 // The fields, the constraints and the section so far, and the last head's record, counted from 0.
 pub struct State {
@@ -84,8 +85,8 @@ fn after_head(code: u8, c: Context, i: usize) -> State
 }
 
 // Record i is a head: it closes the list before it, and opens its own.
-fn head_turn(file: &[u8], i: usize, st: State, m: Record) -> Turn
-    requires { ⌜ (st .head < i) × (i < length (now file) / 32) × (length (now file) ≤ 65536) × (asRecord m ≡ recordAt (now file) i) × (isMember (kindOf (m .code)) ≡ false) × Counted st ⌝ }
+fn head_turn(rows: &[u32], file: &[u8], i: usize, st: State, m: Record) -> Turn
+    requires { ⌜ (st .head < i) × (i < length (now file) / 32) × (length (now file) ≤ 65536) × (asRecord m ≡ recordAt (now file) i) × (isMember (kindOf (m .code)) ≡ false) × Counted st × (now rows ≡ tableWords) ⌝ }
     ensures { λ r. ⌜ (leftAt (now (file .entry)) st i ≡ afterTurn (now (file .entry)) i r) × turnGood i r ⌝ }
 {
     let head = st.head;
@@ -98,7 +99,7 @@ fn head_turn(file: &[u8], i: usize, st: State, m: Record) -> Turn
         });
     }
     let c = context_of(st);
-    let own = head_fault(m, c);
+    let own = head_fault(rows, m, c);
     if own != 0 {
         return Turn::Bad(Refusal {
             number: own,
@@ -109,15 +110,15 @@ fn head_turn(file: &[u8], i: usize, st: State, m: Record) -> Turn
 }
 
 // Record i is a member: of the open list, or of none.
-fn member_turn(file: &[u8], i: usize, st: State, m: Record) -> Turn
-    requires { ⌜ (st .head < i) × (i < length (now file) / 32) × (length (now file) ≤ 65536) × (asRecord m ≡ recordAt (now file) i) × (m .a < 256) × (m .b < 256) × (isMember (kindOf (m .code)) ≡ true) × Counted st ⌝ }
+fn member_turn(rows: &[u32], file: &[u8], i: usize, st: State, m: Record) -> Turn
+    requires { ⌜ (st .head < i) × (i < length (now file) / 32) × (length (now file) ≤ 65536) × (asRecord m ≡ recordAt (now file) i) × (m .a < 256) × (m .b < 256) × (isMember (kindOf (m .code)) ≡ true) × Counted st × (now rows ≡ tableWords) ⌝ }
     ensures { λ r. ⌜ (leftAt (now (file .entry)) st i ≡ afterTurn (now (file .entry)) i r) × turnGood i r ⌝ }
 {
     let head = st.head;
     let h = record_at(file, head);
     let before = part(file, head + 1, i);
-    if belongs_to(h, m) {
-        let own = member_fault(h, st.fields, before, m);
+    if belongs_to(rows, h, m) {
+        let own = member_fault(rows, h, st.fields, before, m);
         if own != 0 {
             return Turn::Bad(Refusal {
                 number: own,
@@ -134,20 +135,20 @@ fn member_turn(file: &[u8], i: usize, st: State, m: Record) -> Turn
         });
     }
     Turn::Bad(Refusal {
-        number: misfiled_fault(m),
+        number: misfiled_fault(rows, m),
         record: i + 1,
     })
 }
 
-fn step(file: &[u8], i: usize, st: State) -> Turn
-    requires { ⌜ (st .head < i) × (i < length (now file) / 32) × (length (now file) ≤ 65536) × Counted st ⌝ }
+fn step(rows: &[u32], file: &[u8], i: usize, st: State) -> Turn
+    requires { ⌜ (st .head < i) × (i < length (now file) / 32) × (length (now file) ≤ 65536) × Counted st × (now rows ≡ tableWords) ⌝ }
     ensures { λ r. ⌜ (leftAt (now (file .entry)) st i ≡ afterTurn (now (file .entry)) i r) × turnGood i r ⌝ }
 {
     let m = record_at(file, i);
     if is_member(m.code) {
-        return member_turn(file, i, st, m);
+        return member_turn(rows, file, i, st, m);
     }
-    head_turn(file, i, st, m)
+    head_turn(rows, file, i, st, m)
 }
 
 // After the last record.
@@ -178,15 +179,15 @@ fn close(file: &[u8], st: State) -> Refusal
 }
 
 // The records after the first, which is a head.
-fn scan_from(file: &[u8], first: State) -> Refusal
-    requires { ⌜ (first .head < 1) × (1 ≤ length (now file) / 32) × (length (now file) ≤ 65536) × Counted first ⌝ }
+fn scan_from(rows: &[u32], file: &[u8], first: State) -> Refusal
+    requires { ⌜ (first .head < 1) × (1 ≤ length (now file) / 32) × (length (now file) ≤ 65536) × Counted first × (now rows ≡ tableWords) ⌝ }
     ensures { λ r. ⌜ asFault r ≡ leftAt (now (file .entry)) first 1 ⌝ }
 {
     let n = file.len() / 32;
     let mut st = first;
     let mut i = 1;
     while i < n {
-        let t = step(file, i, st);
+        let t = step(rows, file, i, st);
         match t {
             Turn::Bad(x) => {
                 return x;
@@ -211,10 +212,11 @@ pub(crate) fn scan(file: &[u8]) -> Refusal
             record: 1,
         };
     }
+    let rows = ROWS;
     let m = record_at(file, 0);
     if is_member(m.code) {
         return Refusal {
-            number: misfiled_fault(m),
+            number: misfiled_fault(&rows, m),
             record: 1,
         };
     }
@@ -223,12 +225,12 @@ pub(crate) fn scan(file: &[u8]) -> Refusal
         constraints: 0,
         section: 0,
     };
-    let own = head_fault(m, c);
+    let own = head_fault(&rows, m, c);
     if own != 0 {
         return Refusal {
             number: own,
             record: 1,
         };
     }
-    scan_from(file, after_head(m.code, c, 0))
+    scan_from(&rows, file, after_head(m.code, c, 0))
 }

@@ -95,7 +95,9 @@ fn product_of(file: &[u8]) -> usize
     let mut t = 1;
     let mut i = 0;
     while i < n {
-        t = times(t, factor(file, i));
+        if code_at(file, i) == 1 {
+            t = times(t, factor(file, i));
+        }
         i += 1;
     }
     t

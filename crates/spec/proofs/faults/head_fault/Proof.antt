@@ -9,17 +9,17 @@ use Rattle.spec.proofs.faults.head_fault.Statement.{statement}
 use Rattle.spec.proofs.faults.head_fault.Tie as tie
 
 -- ---- the answers of the tests by row
-stray : (c : tie.After-stray-by) → strayByte (kindOf (c .before .before .before .before .args .h .code)) (asRecord (c .before .before .before .before .args .h)) ≡ c .stray-by .result
-stray c = sym (c .stray-by .ensures ∙ stray-row (c .before .row-of .result) (c .before .before .before .before .args .h) (c .before .row-of .ensures))
+stray : (c : tie.After-stray-by) → strayByte (kindOf (c .before .before .before .before .before .args .h .code)) (asRecord (c .before .before .before .before .before .args .h)) ≡ c .stray-by .result
+stray c = sym (c .stray-by .ensures ∙ stray-row (c .before .row-in .result) (c .before .before .before .before .before .args .h) (c .before .row-in .ensures))
 
-order : (c : tie.After-out-of-order-by) → outOfOrder (kindOf (c .before .before .before .before .before .before .args .h .code)) (asContext (c .before .before .before .before .before .before .args .c)) (asRecord (c .before .before .before .before .before .before .args .h)) ≡ c .out-of-order-by .result
-order c = sym (c .out-of-order-by .ensures ∙ order-row (c .before .before .before .row-of .result) (c .before .before .before .before .before .before .args .h) (c .before .before .before .row-of .ensures) (asContext (c .before .before .before .before .before .before .args .c)))
+order : (c : tie.After-out-of-order-by) → outOfOrder (kindOf (c .before .before .before .before .before .before .before .args .h .code)) (asContext (c .before .before .before .before .before .before .before .args .c)) (asRecord (c .before .before .before .before .before .before .before .args .h)) ≡ c .out-of-order-by .result
+order c = sym (c .out-of-order-by .ensures ∙ order-row (c .before .before .before .row-in .result) (c .before .before .before .before .before .before .before .args .h) (c .before .before .before .row-in .ensures) (asContext (c .before .before .before .before .before .before .before .args .c)))
 
-named : (c : tie.After-named-by) → noSuchField (kindOf (c .before .before .before .before .before .before .before .before .before .before .args .h .code)) (c .before .before .before .before .before .before .before .before .before .before .args .c .fields) (asRecord (c .before .before .before .before .before .before .before .before .before .before .args .h)) ≡ c .named-by .result
-named c = sym (c .named-by .ensures ∙ named-row (c .before .before .before .before .before .before .before .row-of .result) (c .before .before .before .before .before .before .before .before .before .before .args .h) (c .before .before .before .before .before .before .before .row-of .ensures) (c .before .before .before .before .before .before .before .before .before .before .args .c .fields))
+named : (c : tie.After-named-by) → noSuchField (kindOf (c .before .before .before .before .before .before .before .before .before .before .before .args .h .code)) (c .before .before .before .before .before .before .before .before .before .before .before .args .c .fields) (asRecord (c .before .before .before .before .before .before .before .before .before .before .before .args .h)) ≡ c .named-by .result
+named c = sym (c .named-by .ensures ∙ named-row (c .before .before .before .before .before .before .before .row-in .result) (c .before .before .before .before .before .before .before .before .before .before .before .args .h) (c .before .before .before .before .before .before .before .row-in .ensures) (c .before .before .before .before .before .before .before .before .before .before .before .args .c .fields))
 
-scaled : (c : tie.After-scaled-by) → offScale (kindOf (c .before .before .before .before .before .before .before .before .before .before .before .before .args .h .code)) (asRecord (c .before .before .before .before .before .before .before .before .before .before .before .before .args .h)) ≡ c .scaled-by .result
-scaled c = sym (c .scaled-by .ensures ∙ scaled-row (c .before .before .before .before .before .before .before .before .before .row-of .result) (c .before .before .before .before .before .before .before .before .before .before .before .before .args .h) (c .before .before .before .before .before .before .before .before .before .row-of .ensures))
+scaled : (c : tie.After-scaled-by) → offScale (kindOf (c .before .before .before .before .before .before .before .before .before .before .before .before .before .args .h .code)) (asRecord (c .before .before .before .before .before .before .before .before .before .before .before .before .before .args .h)) ≡ c .scaled-by .result
+scaled c = sym (c .scaled-by .ensures ∙ scaled-row (c .before .before .before .before .before .before .before .before .before .row-in .result) (c .before .before .before .before .before .before .before .before .before .before .before .before .before .args .h) (c .before .before .before .before .before .before .before .before .before .row-in .ensures))
 
 -- ---- the needs
 unknown-kind-requires : tie.Need-unknown-kind-requires
@@ -28,8 +28,8 @@ unknown-kind-requires c κs = search needs
 returns : tie.Need-returns
 returns c = rw (sym (c .before .unknown-kind .ensures) ∙ c .if1 .taken)
 
-row-of-requires : tie.Need-row-of-requires
-row-of-requires c κs = search needs
+row-in-requires : tie.Need-row-in-requires
+row-in-requires c κs = search needs
 
 stray-by-requires : tie.Need-stray-by-requires
 stray-by-requires c κs = search needs
@@ -76,7 +76,7 @@ head-fault-spec =
     (tie.spec
     unknown-kind-requires
     returns
-    row-of-requires
+    row-in-requires
     stray-by-requires
     returns-2
     out-of-order-by-requires

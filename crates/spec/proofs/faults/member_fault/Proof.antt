@@ -10,21 +10,21 @@ use Rattle.spec.proofs.faults.member_fault.Statement.{statement}
 use Rattle.spec.proofs.faults.member_fault.Tie as tie
 
 -- ---- the answers of the tests by row
-stray : (c : tie.After-stray-by) → strayByte (kindOf (c .before .before .before .args .m .code)) (asRecord (c .before .before .before .args .m)) ≡ c .stray-by .result
-stray c = sym (c .stray-by .ensures ∙ stray-row (c .before .row-of .result) (c .before .before .before .args .m) (c .before .row-of .ensures))
+stray : (c : tie.After-stray-by) → strayByte (kindOf (c .before .before .before .before .args .m .code)) (asRecord (c .before .before .before .before .args .m)) ≡ c .stray-by .result
+stray c = sym (c .stray-by .ensures ∙ stray-row (c .before .row-in .result) (c .before .before .before .before .args .m) (c .before .row-in .ensures))
 
-due : (c : tie.After-due-by) → notDue (kindOf (c .before .before .before .before .before .args .m .code)) (c .before .before .before .before .before .args .h .a) (asRecord (c .before .before .before .before .before .args .m)) ≡ c .due-by .result
-due c = sym (c .due-by .ensures ∙ due-row (c .before .before .before .row-of .result) (c .before .before .before .before .before .args .m) (c .before .before .before .row-of .ensures) (c .before .before .before .before .before .args .h .a))
+due : (c : tie.After-due-by) → notDue (kindOf (c .before .before .before .before .before .before .args .m .code)) (c .before .before .before .before .before .before .args .h .a) (asRecord (c .before .before .before .before .before .before .args .m)) ≡ c .due-by .result
+due c = sym (c .due-by .ensures ∙ due-row (c .before .before .before .row-in .result) (c .before .before .before .before .before .before .args .m) (c .before .before .before .row-in .ensures) (c .before .before .before .before .before .before .args .h .a))
 
-named : (c : tie.After-named-by) → noSuchField (kindOf (c .before .before .before .before .before .before .before .args .m .code)) (c .before .before .before .before .before .before .before .args .fields) (asRecord (c .before .before .before .before .before .before .before .args .m)) ≡ c .named-by .result
-named c = sym (c .named-by .ensures ∙ named-row (c .before .before .before .before .before .row-of .result) (c .before .before .before .before .before .before .before .args .m) (c .before .before .before .before .before .row-of .ensures) (c .before .before .before .before .before .before .before .args .fields))
+named : (c : tie.After-named-by) → noSuchField (kindOf (c .before .before .before .before .before .before .before .before .args .m .code)) (c .before .before .before .before .before .before .before .before .args .fields) (asRecord (c .before .before .before .before .before .before .before .before .args .m)) ≡ c .named-by .result
+named c = sym (c .named-by .ensures ∙ named-row (c .before .before .before .before .before .row-in .result) (c .before .before .before .before .before .before .before .before .args .m) (c .before .before .before .before .before .row-in .ensures) (c .before .before .before .before .before .before .before .before .args .fields))
 
-scaled : (c : tie.After-scaled-by) → offScale (kindOf (c .before .before .before .before .before .before .before .before .before .args .m .code)) (asRecord (c .before .before .before .before .before .before .before .before .before .args .m)) ≡ c .scaled-by .result
-scaled c = sym (c .scaled-by .ensures ∙ scaled-row (c .before .before .before .before .before .before .before .row-of .result) (c .before .before .before .before .before .before .before .before .before .args .m) (c .before .before .before .before .before .before .before .row-of .ensures))
+scaled : (c : tie.After-scaled-by) → offScale (kindOf (c .before .before .before .before .before .before .before .before .before .before .args .m .code)) (asRecord (c .before .before .before .before .before .before .before .before .before .before .args .m)) ≡ c .scaled-by .result
+scaled c = sym (c .scaled-by .ensures ∙ scaled-row (c .before .before .before .before .before .before .before .row-in .result) (c .before .before .before .before .before .before .before .before .before .before .args .m) (c .before .before .before .before .before .before .before .row-in .ensures))
 
 -- ---- the needs
-row-of-requires : tie.Need-row-of-requires
-row-of-requires c κs = search needs
+row-in-requires : tie.Need-row-in-requires
+row-in-requires c κs = search needs
 
 stray-by-requires : tie.Need-stray-by-requires
 stray-by-requires c κs = search needs
@@ -51,22 +51,22 @@ returns-4 : tie.Need-returns-4
 returns-4 c = rw (stray (c .before .before .before .before .before .before .before) ∙ c .before .before .before .before .before .before .if1 .left, due (c .before .before .before .before .before) ∙ c .before .before .before .before .if2 .left, named (c .before .before .before) ∙ c .before .before .if3 .left, scaled (c .before) ∙ c .if4 .taken)
 
 returns-5 : tie.Need-returns-5
-returns-5 c = rw (stray (c .before .before .before .before .before .before .before .before .before) ∙ c .before .before .before .before .before .before .before .before .if1 .left, due (c .before .before .before .before .before .before .before) ∙ c .before .before .before .before .before .before .if2 .left, named (c .before .before .before .before .before) ∙ c .before .before .before .before .if3 .left, scaled (c .before .before .before) ∙ c .before .before .if4 .left, packing-none (c .before .before .before .before .before .before .before .before .before .before .row-of .result) (c .before .before .before .before .before .before .before .before .before .before .before .before .args .m) (c .before .before .before .before .before .before .before .before .before .before .row-of .ensures) (recordsOf (c .before .before .before .before .before .before .before .before .before .before .before .before .args .before .now)) (c .if5 .taken))
+returns-5 c = rw (stray (c .before .before .before .before .before .before .before .before .before) ∙ c .before .before .before .before .before .before .before .before .if1 .left, due (c .before .before .before .before .before .before .before) ∙ c .before .before .before .before .before .before .if2 .left, named (c .before .before .before .before .before) ∙ c .before .before .before .before .if3 .left, scaled (c .before .before .before) ∙ c .before .before .if4 .left, packing-none (c .before .before .before .before .before .before .before .before .before .before .row-in .result) (c .before .before .before .before .before .before .before .before .before .before .before .before .before .args .m) (c .before .before .before .before .before .before .before .before .before .before .row-in .ensures) (recordsOf (c .before .before .before .before .before .before .before .before .before .before .before .before .before .args .before .now)) (c .if5 .taken))
 
 bad-axis-requires : tie.Need-bad-axis-requires
 bad-axis-requires c κs = search needs
 
 returns-6 : tie.Need-returns-6
-returns-6 c = rw (stray (c .before .before .before .before .before .before .before .before .before .before .before) ∙ c .before .before .before .before .before .before .before .before .before .before .if1 .left, due (c .before .before .before .before .before .before .before .before .before) ∙ c .before .before .before .before .before .before .before .before .if2 .left, named (c .before .before .before .before .before .before .before) ∙ c .before .before .before .before .before .before .if3 .left, scaled (c .before .before .before .before .before) ∙ c .before .before .before .before .if4 .left, packing-axis (c .before .before .before .before .before .before .before .before .before .before .before .before .row-of .result) (c .before .before .before .before .before .before .before .before .before .before .before .before .before .before .args .m) (c .before .before .before .before .before .before .before .before .before .before .before .before .row-of .ensures) (recordsOf (c .before .before .before .before .before .before .before .before .before .before .before .before .before .before .args .before .now)) (c .before .before .if5 .left) ∙ sym (c .before .bad-axis .ensures) ∙ c .if6 .taken)
+returns-6 c = rw (stray (c .before .before .before .before .before .before .before .before .before .before .before) ∙ c .before .before .before .before .before .before .before .before .before .before .if1 .left, due (c .before .before .before .before .before .before .before .before .before) ∙ c .before .before .before .before .before .before .before .before .if2 .left, named (c .before .before .before .before .before .before .before) ∙ c .before .before .before .before .before .before .if3 .left, scaled (c .before .before .before .before .before) ∙ c .before .before .before .before .if4 .left, packing-axis (c .before .before .before .before .before .before .before .before .before .before .before .before .row-in .result) (c .before .before .before .before .before .before .before .before .before .before .before .before .before .before .before .args .m) (c .before .before .before .before .before .before .before .before .before .before .before .before .row-in .ensures) (recordsOf (c .before .before .before .before .before .before .before .before .before .before .before .before .before .before .before .args .before .now)) (c .before .before .if5 .left) ∙ sym (c .before .bad-axis .ensures) ∙ c .if6 .taken)
 
 returns-7 : tie.Need-returns-7
-returns-7 c = rw (stray (c .before .before .before .before .before .before .before .before .before .before .before) ∙ c .before .before .before .before .before .before .before .before .before .before .if1 .left, due (c .before .before .before .before .before .before .before .before .before) ∙ c .before .before .before .before .before .before .before .before .if2 .left, named (c .before .before .before .before .before .before .before) ∙ c .before .before .before .before .before .before .if3 .left, scaled (c .before .before .before .before .before) ∙ c .before .before .before .before .if4 .left, packing-axis (c .before .before .before .before .before .before .before .before .before .before .before .before .row-of .result) (c .before .before .before .before .before .before .before .before .before .before .before .before .before .before .args .m) (c .before .before .before .before .before .before .before .before .before .before .before .before .row-of .ensures) (recordsOf (c .before .before .before .before .before .before .before .before .before .before .before .before .before .before .args .before .now)) (c .before .before .if5 .left) ∙ sym (c .before .bad-axis .ensures) ∙ c .if6 .left)
+returns-7 c = rw (stray (c .before .before .before .before .before .before .before .before .before .before .before) ∙ c .before .before .before .before .before .before .before .before .before .before .if1 .left, due (c .before .before .before .before .before .before .before .before .before) ∙ c .before .before .before .before .before .before .before .before .if2 .left, named (c .before .before .before .before .before .before .before) ∙ c .before .before .before .before .before .before .if3 .left, scaled (c .before .before .before .before .before) ∙ c .before .before .before .before .if4 .left, packing-axis (c .before .before .before .before .before .before .before .before .before .before .before .before .row-in .result) (c .before .before .before .before .before .before .before .before .before .before .before .before .before .before .before .args .m) (c .before .before .before .before .before .before .before .before .before .before .before .before .row-in .ensures) (recordsOf (c .before .before .before .before .before .before .before .before .before .before .before .before .before .before .before .args .before .now)) (c .before .before .if5 .left) ∙ sym (c .before .bad-axis .ensures) ∙ c .if6 .left)
 
 pub member-fault-spec : {M : Type 1} → statement M
 member-fault-spec =
     tie.close
     (tie.spec
-    row-of-requires
+    row-in-requires
     stray-by-requires
     returns
     due-by-requires

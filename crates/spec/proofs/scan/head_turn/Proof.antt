@@ -23,17 +23,17 @@ part-requires c κs = search needs
 list-fault-requires : tie.Need-list-fault-requires
 list-fault-requires c κs = search needs
 
-add-t13 : tie.Need-add-t13
-add-t13 c = search needs
+add-t14 : tie.Need-add-t14
+add-t14 c = search needs
 
 -- what is left here, the head's own number being own
-here : (c : tie.After-list-fault) (own : ℕ) → own ≡ firstTrue 2 (headTests (kindOf (c .before .before .before .before .args .m .code)) (stateContext (c .before .before .before .before .args .st)) (asRecord (c .before .before .before .before .args .m)))
-    → leftAt (c .before .before .before .before .args .file .now) (c .before .before .before .before .args .st) (c .before .before .before .before .args .i)
-    ≡ refuse (c .list-fault .result) (c .before .before .before .before .args .st .head + 1)
-    ▷ (refuse own (c .before .before .before .before .args .i + 1)
-    ▷ left (afterHead (kindOf (c .before .before .before .before .args .m .code)) (stateContext (c .before .before .before .before .args .st))) (asRecord (c .before .before .before .before .args .m)) (c .before .before .before .before .args .i + 1) [] (later (c .before .before .before .before .args .file .now) (c .before .before .before .before .args .i)) (c .before .before .before .before .args .i + 1 + 1))
+here : (c : tie.After-list-fault) (own : ℕ) → own ≡ firstTrue 2 (headTests (kindOf (c .before .before .before .before .before .args .m .code)) (stateContext (c .before .before .before .before .before .args .st)) (asRecord (c .before .before .before .before .before .args .m)))
+    → leftAt (c .before .before .before .before .before .args .file .now) (c .before .before .before .before .before .args .st) (c .before .before .before .before .before .args .i)
+    ≡ refuse (c .list-fault .result) (c .before .before .before .before .before .args .st .head + 1)
+    ▷ (refuse own (c .before .before .before .before .before .args .i + 1)
+    ▷ left (afterHead (kindOf (c .before .before .before .before .before .args .m .code)) (stateContext (c .before .before .before .before .before .args .st))) (asRecord (c .before .before .before .before .before .args .m)) (c .before .before .before .before .before .args .i + 1) [] (later (c .before .before .before .before .before .args .file .now) (c .before .before .before .before .before .args .i)) (c .before .before .before .before .before .args .i + 1 + 1))
 here c own o =
-    let s = c .before .before .before .before in
+    let s = c .before .before .before .before .before in
     at-head (s .args .file .now) (s .args .st) _ _ (s .args .i) (c .before .before .record-at .ensures .0) (c .before .part .ensures .1) (asRecord (s .args .m)) (s .pre .3) (s .pre .1) (c .list-fault .result) own (c .list-fault .ensures) o (s .pre .4)
 
 returns : tie.Need-returns
@@ -45,12 +45,12 @@ context-of-requires c κs = search needs
 head-fault-requires : tie.Need-head-fault-requires
 head-fault-requires c κs = search needs
 
-add-t15 : tie.Need-add-t15
-add-t15 c = search needs
+add-t16 : tie.Need-add-t16
+add-t16 c = search needs
 
 -- the head's own number, in the context of the state
-own-is : (c : tie.After-head-fault) → c .head-fault .result ≡ firstTrue 2 (headTests (kindOf (c .before .before .before .before .before .before .before .args .m .code)) (stateContext (c .before .before .before .before .before .before .before .args .st)) (asRecord (c .before .before .before .before .before .before .before .args .m)))
-own-is c = c .head-fault .ensures ∙ ap (λ (x : Context). firstTrue 2 (headTests (kindOf (c .before .before .before .before .before .before .before .args .m .code)) x (asRecord (c .before .before .before .before .before .before .before .args .m)))) (c .before .context-of .ensures)
+own-is : (c : tie.After-head-fault) → c .head-fault .result ≡ firstTrue 2 (headTests (kindOf (c .before .before .before .before .before .before .before .before .args .m .code)) (stateContext (c .before .before .before .before .before .before .before .before .args .st)) (asRecord (c .before .before .before .before .before .before .before .before .args .m)))
+own-is c = c .head-fault .ensures ∙ ap (λ (x : Context). firstTrue 2 (headTests (kindOf (c .before .before .before .before .before .before .before .before .args .m .code)) x (asRecord (c .before .before .before .before .before .before .before .before .args .m)))) (c .before .context-of .ensures)
 
 returns-2 : tie.Need-returns-2
 returns-2 c =
@@ -64,7 +64,7 @@ after-head-requires c κs =
 
 returns-3 : tie.Need-returns-3
 returns-3 c =
-    let s = c .before .before .before .before .before .before .before .before .before in
+    let s = c .before .before .before .before .before .before .before .before .before .before in
     let r = subst (λ (x : Context). Reached (afterHead (kindOf (s .args .m .code)) x) (s .args .i) (c .after-head .result)) (c .before .before .before .context-of .ensures) (c .after-head .ensures) in (
       here (c .before .before .before .before .before) (c .before .before .head-fault .result) (own-is (c .before .before)) ∙ refuse-none (c .before .before .before .before .before .list-fault .result) _ _ (c .before .before .before .before .if1 .left) ∙ refuse-none (c .before .before .head-fault .result) _ _ (c .before .if2 .left)
           ∙ at-opened (s .args .file .now) _ (asRecord (s .args .m)) (s .args .i) (c .after-head .result) (s .pre .3) r,
@@ -79,11 +79,11 @@ head-turn-spec =
     add-part
     part-requires
     list-fault-requires
-    add-t13
+    add-t14
     returns
     context-of-requires
     head-fault-requires
-    add-t15
+    add-t16
     returns-2
     after-head-requires
     returns-3)

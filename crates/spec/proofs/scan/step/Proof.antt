@@ -13,17 +13,17 @@ is-member-requires c κs = search needs
 
 member-turn-requires : tie.Need-member-turn-requires
 member-turn-requires c κs =
-    let s = c .before .before .before .before in
+    let s = c .before .before .before .before .before in
     let r = c .before .before .record-at .ensures in
-    (s .pre .0, s .pre .1, s .pre .2, r .0, r .1 .0, r .1 .1, sym (c .before .is-member .ensures) ∙ c .if1 .taken, s .pre .3)
+    (s .pre .0, s .pre .1, s .pre .2, r .0, r .1 .0, r .1 .1, sym (c .before .is-member .ensures) ∙ c .if1 .taken, s .pre .3, s .pre .4)
 
 returns : tie.Need-returns
 returns c = search needs
 
 head-turn-requires : tie.Need-head-turn-requires
 head-turn-requires c κs =
-    let s = c .before .before .before .before in
-    (s .pre .0, s .pre .1, s .pre .2, c .before .before .record-at .ensures .0, sym (c .before .is-member .ensures) ∙ c .if1 .left, s .pre .3)
+    let s = c .before .before .before .before .before in
+    (s .pre .0, s .pre .1, s .pre .2, c .before .before .record-at .ensures .0, sym (c .before .is-member .ensures) ∙ c .if1 .left, s .pre .3, s .pre .4)
 
 returns-2 : tie.Need-returns-2
 returns-2 c = search needs
