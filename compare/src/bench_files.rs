@@ -165,6 +165,16 @@ pub fn all() -> Vec<Timed> {
         m.put(RANGE, 0, 0, 0, 0);
         m.sum()
     };
+    // So many parents, the first of which are keys; the child's values are listed from the highest down.
+    let falling = |keys: i64, parents: i64, each: i64, children: i64| {
+        let mut m = Maker::ranges(&[parents]);
+        m.put(FIELD, 1, 2, 0, 0);
+        for value in (0..children).rev() {
+            m.put(VALUE, 1, 0, value, 0);
+        }
+        m.map(0, 1, keys, each, children, 1);
+        m.sum()
+    };
     let large = {
         let mut m = Maker::ranges(&[100, 100, 100, 100]);
         m.put(NEQ, 0, 1, 0, 0);
@@ -196,6 +206,16 @@ pub fn all() -> Vec<Timed> {
             Maker::ranges(&[1]).sum(),
         ),
         timed("l", "1,000 listed values, one is left", one_left),
+        timed(
+            "m1",
+            "no room for a table, 700 falling values",
+            falling(100, 100, 10, 700),
+        ),
+        timed(
+            "m2",
+            "no room for a table, 300 falling values",
+            falling(100, 300, 8, 300),
+        ),
         Timed {
             name: "g",
             what: "a total of 10^8",
