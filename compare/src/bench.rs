@@ -2,6 +2,7 @@
 //! Each (file, engine, side) has a process of its own, so that its peak memory is its own.
 
 mod bench_files;
+mod search;
 
 use bench_files::Timed;
 
@@ -119,26 +120,30 @@ fn code(engine: Engine) -> u8 {
     u8::from(engine == Engine::Exhaustive)
 }
 
+/// The counts, unless the engine refuses the file.
+fn count_once(engine: Engine, file: &[u8], scratch: &mut [i64]) -> Option<[usize; 4]> {
+    let file = black_box(file);
+    let mut answer = [0usize; 4];
+    let status = unsafe {
+        rules_count(
+            code(engine),
+            file.as_ptr(),
+            file.len(),
+            scratch.as_mut_ptr(),
+            scratch.len(),
+            answer.as_mut_ptr(),
+            answer.len(),
+        )
+    };
+    (status == 0).then_some(black_box(answer))
+}
+
 fn counted(engine: Engine, file: &[u8]) -> Measured {
     // Lent as zeros; an accepted count leaves zeros.
     let mut scratch = vec![0i64; needs(file)[3]];
     let mut answer = [0usize; 4];
-    let engine = code(engine);
     let time = median(|| {
-        let file = black_box(file);
-        let status = unsafe {
-            rules_count(
-                engine,
-                file.as_ptr(),
-                file.len(),
-                scratch.as_mut_ptr(),
-                scratch.len(),
-                answer.as_mut_ptr(),
-                answer.len(),
-            )
-        };
-        assert_eq!(status, 0, "refused: {answer:?}");
-        black_box(&answer);
+        answer = count_once(engine, file, &mut scratch).expect("refused");
     });
     (answer, time)
 }
@@ -184,27 +189,37 @@ fn paged(engine: Engine, file: &[u8]) -> Measured {
     (counts, time)
 }
 
-fn specification(file: &[u8]) -> VerificationSpec {
-    oracle::specification(&reading::judge(file).expect("refused"))
+fn specification(file: &[u8]) -> Option<VerificationSpec> {
+    let judged = reading::judge(file).ok()?;
+    Some(oracle::specification(&judged))
 }
 
-/// The original counts its verdicts. Its registries are made before, and its specification too unless it is read in the call.
+/// The original counts its verdicts.
+fn original_once(
+    engine: Engine,
+    spec: &VerificationSpec,
+    constraints: &ConstraintRegistry,
+    projectors: &ProjectorRegistry,
+) -> [usize; 4] {
+    let c: Classification = match engine {
+        Engine::Structural => evaluate_structural(spec, constraints, projectors),
+        Engine::Exhaustive => NaiveClassifier.classify(spec, constraints, projectors),
+    }
+    .expect("the original refuses");
+    let (passed, failed) = c.counts();
+    black_box([c.total, c.verdicts.len(), passed, failed])
+}
+
+/// Its registries are made before, and its specification too unless it is read in the call.
 fn original(engine: Engine, file: &[u8], read: bool) -> Measured {
     let constraints = ConstraintRegistry::default();
     let projectors = ProjectorRegistry::default();
-    let ready = specification(file);
+    let ready = specification(file).expect("refused");
     let mut answer = [0usize; 4];
     let time = median(|| {
-        let made = read.then(|| specification(black_box(file)));
+        let made = read.then(|| specification(black_box(file)).expect("refused"));
         let spec = black_box(made.as_ref().unwrap_or(&ready));
-        let c: Classification = match engine {
-            Engine::Structural => evaluate_structural(spec, &constraints, &projectors),
-            Engine::Exhaustive => NaiveClassifier.classify(spec, &constraints, &projectors),
-        }
-        .expect("the original refuses");
-        let (passed, failed) = c.counts();
-        answer = [c.total, c.verdicts.len(), passed, failed];
-        black_box(&answer);
+        answer = original_once(engine, spec, &constraints, &projectors);
     });
     (answer, time)
 }
@@ -305,6 +320,9 @@ fn main() {
     match &words[..] {
         [side, engine, name] => one(side, engine, name),
         [option, names] if option == "--only" => table(Some(names)),
+        [option, seconds] if option == "--search" => {
+            search::search(seconds.parse().expect("seconds"), 1)
+        }
         _ => table(None),
     }
 }

@@ -139,17 +139,27 @@ pub fn all() -> Vec<Timed> {
         m.map(0, 2, 50, 16, 200, 4096);
         m.sum()
     };
-    let no_room = {
+    let large_table = {
         let mut m = Maker::ranges(&[10, 300, 300]);
         m.map(1, 2, 200, 4, 300, 1);
         m.sum()
     };
-    let items = {
-        let mut m = Maker::ranges(&[10_000]);
+    let no_room = {
+        let mut m = Maker::ranges(&[600, 600]);
+        m.map(0, 1, 200, 4, 600, 1);
+        m.sum()
+    };
+    let items = |values: i64, many: i64| {
+        let mut m = Maker::ranges(&[values]);
         m.put(ONEOF, 0, 0, 0, 0);
-        for i in 0..1000 {
-            m.put(ITEM, 0, 0, i * 10, 0);
+        for i in 0..many {
+            m.put(ITEM, 0, 0, i * (values / many), 0);
         }
+        m.sum()
+    };
+    let parents = {
+        let mut m = Maker::ranges(&[800, 20]);
+        m.map(0, 1, 130, 13, 20, 1);
         m.sum()
     };
     let axes = {
@@ -197,8 +207,19 @@ pub fn all() -> Vec<Timed> {
         timed("h3", "800 pairs, all multiples of 4096", multiples),
         timed("h4", "h2 with the child fastest", one_key_fastest),
         timed("h5", "h3 with the child fastest", multiples_fastest),
-        timed("h6", "800 pairs, no room for a table", no_room),
-        timed("j", "a oneof of 1,000 items on 10,000 values", items),
+        timed("h6", "800 pairs, a table of 90,000 cells", large_table),
+        timed("h7", "800 pairs, no room for a table", no_room),
+        timed("h8", "130 keys of 13 pairs, 800 parents", parents),
+        timed(
+            "j",
+            "a oneof of 1,000 items on 10,000 values",
+            items(10_000, 1000),
+        ),
+        timed(
+            "j2",
+            "a oneof of 14 items on 300,000 values",
+            items(300_000, 14),
+        ),
         timed("k", "decompose with twelve axes", axes),
         timed(
             "i",
@@ -208,13 +229,18 @@ pub fn all() -> Vec<Timed> {
         timed("l", "1,000 listed values, one is left", one_left),
         timed(
             "m1",
-            "no room for a table, 700 falling values",
+            "a table of 70,000 cells, falling values",
             falling(100, 100, 10, 700),
         ),
         timed(
             "m2",
-            "no room for a table, 300 falling values",
+            "a table of 90,000 cells, falling values",
             falling(100, 300, 8, 300),
+        ),
+        timed(
+            "m3",
+            "no room for a table, 600 falling values",
+            falling(500, 500, 2, 600),
         ),
         Timed {
             name: "g",

@@ -482,24 +482,41 @@ fn mapped(keys: i64, children: i64, child: &[Six]) -> Vec<u8> {
     file(&all)
 }
 
-/// Lengths at which the code takes another way: tables of 65,536 cells, maps of 8 and 16 members, oneofs of 32 items, lists of 64 values.
+/// Field 1 lists so many values: from the highest down, in no order, or each twice.
+fn unordered(order: i64, many: i64) -> Vec<Six> {
+    let mut child = vec![(FIELD, 1, 2, 0, 0, 0)];
+    for i in 0..many {
+        let value = match order {
+            -1 => many - i,
+            0 => 1 + i * 7 % many,
+            _ => 1 + i / 2 * 2,
+        };
+        child.push((VALUE, 1, 0, value, 0, 0));
+    }
+    child
+}
+
+/// Lengths at which the code takes another way: tables of 65,536 and of 262,144 cells, maps of 8 and 16 members, maps from 64 values and onto 256, oneofs of 32 items, lists of 64 and of 512 values.
 fn lengths() -> Vec<Vec<u8>> {
     let mut all = Vec::new();
-    for (keys, children) in [(236, 256), (236, 257), (280, 300), (180, 500)] {
+    for (keys, children) in [
+        (236, 256),
+        (236, 257),
+        (280, 300),
+        (492, 512),
+        (492, 513),
+        (44, 40),
+        (45, 40),
+        (3, 256),
+        (3, 257),
+    ] {
         all.push(mapped(keys, children, &[(FIELD, 1, 1, 1, children, 0)]));
     }
     // The same over lists that do not ascend, or that repeat.
     for order in [-1, 0, 1] {
-        let mut child = vec![(FIELD, 1, 2, 0, 0, 0)];
-        for i in 0..400 {
-            let value = match order {
-                -1 => 400 - i,
-                0 => 1 + i * 7 % 400,
-                _ => 1 + i / 2 * 2,
-            };
-            child.push((VALUE, 1, 0, value, 0, 0));
+        for (keys, children) in [(180, 400), (505, 500), (44, 40), (45, 40), (3, 257)] {
+            all.push(mapped(keys, children, &unordered(order, children)));
         }
-        all.push(mapped(180, 400, &child));
     }
     for members in [7, 8, 9, 15, 16, 17] {
         let mut after = vec![(CROSS, 0, 1, 0, 0, 0)];
@@ -514,6 +531,9 @@ fn lengths() -> Vec<Vec<u8>> {
         (33, 65, 0),
         (40, 200, -20),
         (40, 200, 300),
+        (3, 512, 500),
+        (3, 513, 500),
+        (3, 513, 600),
         (900, 2000, 1),
     ] {
         let mut after = vec![(ONEOF, 0, 0, 0, 0, 0)];

@@ -29,3 +29,4 @@ pub mod Rowed
 pub mod Tabled
 pub mod Usual
 pub mod Ascending
+pub mod Spanned

@@ -1,4 +1,6 @@
 // The lists of the fields, laid into the lent scratch: each domain, narrowed in place.
+use crate::finding::is_ascending;
+use crate::finding::next_item;
 use registry::check::meets;
 use registry::sorting::finds_p;
 use registry::sorting::index_run;
@@ -24,7 +26,7 @@ ghost use Rattle.spec.specs.Record.{constraintOf, fieldBy, fieldOf, recordsOf};
 ghost use Rattle.registry.specs.Code.{groupIn, HeadIn, maskIn, passes, testIn};
 ghost use Rattle.registry.specs.Index.{Indexed};
 ghost use Rattle.compose.specs.Maps.{allowed, narrowBy};
-ghost use Rattle.compose.specs.Code.{constraintsIn, fieldsIn, FieldIn, FieldsIn, HeadsIn, keptBy, listPlaces, listsBy, narrowsKind, packedLists};
+ghost use Rattle.compose.specs.Code.{constraintsIn, fieldsIn, FieldIn, FieldsIn, HeadsIn, isAscending, keptBy, listPlaces, listsBy, narrowsKind, packedLists};
 
 // Zeros.
 pub fn clear(list: &mut [i64])
@@ -118,6 +120,39 @@ fn compact_found(list: &mut [i64], run: &[u8], places: &[usize]) -> usize
     w
 }
 
+// The same of a list that ascends, item by item.
+fn compact_ascending(list: &mut [i64], run: &[u8], places: &[usize]) -> usize
+    requires { ⌜ (isAscending (now list) ≡ true) × Indexed (now run) (now places) ⌝ }
+    ensures count { λ r. ⌜ r ≡ length (filter (λ v. elemZ v (psOf (recordsOf (now (run .entry))))) (now (list .entry))) ⌝ }
+    ensures left { λ r. ⌜ now (list .exit) ≡ over (filter (λ v. elemZ v (psOf (recordsOf (now (run .entry))))) (now (list .entry))) (now (list .entry)) ⌝ }
+{
+    let n = list.len();
+    let first = next_item(&list[..], run, places);
+    let mut w = 0;
+    let mut i = first.0;
+    while i < n {
+        let x = list[i];
+        list[w] = x;
+        w += 1;
+        let from = i + 1;
+        let next = next_item(&list[from..], run, places);
+        i = from + next.0;
+    }
+    w
+}
+
+// The same of any list.
+fn compact_items(list: &mut [i64], run: &[u8], places: &[usize]) -> usize
+    requires { ⌜ Indexed (now run) (now places) ⌝ }
+    ensures count { λ r. ⌜ r ≡ length (filter (λ v. elemZ v (psOf (recordsOf (now (run .entry))))) (now (list .entry))) ⌝ }
+    ensures left { λ r. ⌜ now (list .exit) ≡ over (filter (λ v. elemZ v (psOf (recordsOf (now (run .entry))))) (now (list .entry))) (now (list .entry)) ⌝ }
+{
+    if is_ascending(&list[..]) {
+        return compact_ascending(list, run, places);
+    }
+    compact_found(list, run, places)
+}
+
 // Keeps the values that are among the items of a oneof, or all where none is; the items are indexed first.
 fn narrow_listed(list: &mut [i64], h: Record, run: &[u8]) -> usize
     requires { ⌜ (h .code ≡ 18) × (length (now run) / 32 ≤ 2048) ⌝ }
@@ -128,18 +163,27 @@ fn narrow_listed(list: &mut [i64], h: Record, run: &[u8]) -> usize
     let mut places = [0usize; 2048];
     let mut spare = [0usize; 2048];
     index_run(run, &mut places[..n], &mut spare[..n]);
-    let kept = compact_found(list, run, &places[..n]);
+    let kept = compact_items(list, run, &places[..n]);
     if kept == 0 {
         return list.len();
     }
     kept
 }
 
-// A oneof whose items are worth an index: there are many of them and many values. The index has room for 2048.
-fn is_long_oneof(code: u8, items: usize, values: usize) -> bool
+// A oneof whose items are worth an index: there are many of them and many values, or very many values in order. The index has room for 2048.
+fn is_long_oneof(code: u8, items: usize, list: &[i64]) -> bool
     ensures { λ r. ⌜ (r ≡ true → (code ≡ 18) × (items ≤ 2048)) ⌝ }
 {
-    (code == 18) & (32 < items) & (items <= 2048) & (64 < values)
+    if (code != 18) | (2048 < items) {
+        return false;
+    }
+    if (32 < items) & (64 < list.len()) {
+        return true;
+    }
+    if list.len() <= 512 {
+        return false;
+    }
+    is_ascending(list)
 }
 
 // The kinds that narrow a list: range, oneof, bitmask.
@@ -171,7 +215,7 @@ fn narrow_by(file: &[u8], head: usize, end: usize, f: usize, list: &mut [i64]) -
         return list.len();
     }
     let run = part(file, head + 1, end);
-    if is_long_oneof(h.code, run.len() / 32, list.len()) {
+    if is_long_oneof(h.code, run.len() / 32, &list[..]) {
         return narrow_listed(list, h, run);
     }
     narrow(list, h, run)

@@ -1,7 +1,8 @@
-// The next index that a kept map lets stand, by the index of its members: for lists whose values ascend, however long they are.
+// Looking through a list by an index of members: the next value that a kept map lets stand, the next that is one of the items.
 use registry::check::has_pair;
 use registry::sorting::finds_p;
 use registry::sorting::lower;
+use registry::sorting::lower_between;
 use spec::numbers::Index;
 use spec::numbers::Value;
 use spec::records::code_at;
@@ -14,10 +15,12 @@ ghost use Prim.Native.Nat.{_-_, _≤_};
 ghost use lib.IntN.{pos};
 ghost use lib.Signed.{leZ};
 ghost use lib.ListN.{length, getD};
+ghost use Rattle.lists.specs.Integers.{elemZ};
 ghost use Rattle.lists.specs.Lists.{any};
+ghost use Rattle.spec.specs.Code.{psOf};
 ghost use Rattle.spec.specs.Record.{entryOf, recordsOf};
 ghost use Rattle.registry.specs.Check.{crossAllows, isPair};
-ghost use Rattle.registry.specs.Index.{Indexed};
+ghost use Rattle.registry.specs.Index.{Bracket, Indexed, Sorted, Spans};
 ghost use Rattle.compose.specs.Walk.{least};
 ghost use Rattle.compose.specs.Code.{isAscending};
 
@@ -36,7 +39,7 @@ pub(crate) fn is_ascending(list: &[i64]) -> bool
 }
 
 // The first index from `from` on whose value is not below w; the list's length if there is none.
-fn reach(list: &[i64], w: Value, from: Index) -> Index
+pub(crate) fn reach(list: &[i64], w: Value, from: Index) -> Index
     requires { ⌜ (isAscending (now list) ≡ true) × (from .0 ≤ length (now list)) ⌝ }
     ensures { λ i. ⌜ i .0 ≡ least (λ k. leZ (w .0) (getD (now (list .entry)) k (pos 0))) (from .0) (length (now (list .entry)) - from .0) ⌝ }
 {
@@ -72,8 +75,11 @@ fn next_pair(list: &[i64], run: &[u8], places: &[usize], v: Value, from: Index) 
         }
         let q = q_at(run, r);
         if q == w.0 {
+            if code_at(run, r) == 4 {
+                return Index(i);
+            }
             // A key without a child has 0 there.
-            if (code_at(run, r) == 4) | has_pair(run, v, w) {
+            if has_pair(run, v, w) {
                 return Index(i);
             }
             i += 1;
@@ -94,4 +100,146 @@ pub(crate) fn next_found(list: &[i64], run: &[u8], places: &[usize], v: Value, f
         return from;
     }
     next_pair(list, run, places, v, from)
+}
+
+// Numbers of places: from low to before high.
+pub(crate) struct Span {
+    pub low: usize,
+    pub high: usize,
+}
+
+// The places of the records whose p is v.
+pub(crate) fn span_of(run: &[u8], places: &[usize], v: Value) -> Span
+    requires { ⌜ Sorted (now run) (now places) ⌝ }
+    ensures { λ r. ⌜ Spans (now (run .entry)) (now (places .entry)) (v .0) (r .low) (r .high) ⌝ }
+{
+    let x = v.0;
+    let low = lower(run, places, v, Value(i64::MIN));
+    if x == i64::MAX {
+        return Span {
+            low,
+            high: places.len(),
+        };
+    }
+    let high = lower(run, places, Value(x + 1), Value(i64::MIN));
+    Span { low, high }
+}
+
+// v and w are a pair; place k is the first that is not below them.
+fn is_pair_at(run: &[u8], places: &[usize], k: usize, v: Value, w: Value) -> bool
+    requires { ⌜ Indexed (now run) (now places) × Bracket (now run) (now places) (v .0) (w .0) k k ⌝ }
+    ensures { λ r. ⌜ r ≡ any (isPair (v .0) (w .0)) (map entryOf (recordsOf (now (run .entry)))) ⌝ }
+{
+    if places.len() <= k {
+        return false;
+    }
+    let r = places[k];
+    if p_at(run, r) != v.0 {
+        return false;
+    }
+    if q_at(run, r) != w.0 {
+        return false;
+    }
+    if code_at(run, r) == 4 {
+        return true;
+    }
+    // A key without a child has 0 there.
+    has_pair(run, v, w)
+}
+
+// The first index from `from` on whose value is paired with v; the list's length if there is none. Of any list.
+fn next_tried(
+    list: &[i64],
+    run: &[u8],
+    places: &[usize],
+    low: usize,
+    high: usize,
+    v: Value,
+    from: Index,
+) -> Index
+    requires { ⌜ (from .0 ≤ length (now list)) × Indexed (now run) (now places) × Spans (now run) (now places) (v .0) low high ⌝ }
+    ensures { λ i. ⌜ i .0 ≡ least (λ k. any (isPair (v .0) (getD (now (list .entry)) k (pos 0))) (map entryOf (recordsOf (now (run .entry))))) (from .0) (length (now (list .entry)) - from .0) ⌝ }
+{
+    let mut i = from.0;
+    while i < list.len() {
+        let x = list[i];
+        let k = lower_between(run, places, v, Value(x), low, high);
+        if is_pair_at(run, places, k, v, Value(x)) {
+            return Index(i);
+        }
+        i += 1;
+    }
+    Index(i)
+}
+
+// The first index from `from` on that parent value v lets stand, of any list; the list's length if there is none.
+pub(crate) fn next_of(list: &[i64], run: &[u8], places: &[usize], v: Value, from: Index) -> Index
+    requires { ⌜ (from .0 ≤ length (now list)) × Indexed (now run) (now places) ⌝ }
+    ensures { λ i. ⌜ i .0 ≡ least (λ k. crossAllows (map entryOf (recordsOf (now (run .entry)))) (v .0) (getD (now (list .entry)) k (pos 0))) (from .0) (length (now (list .entry)) - from .0) ⌝ }
+{
+    if !finds_p(run, places, v) {
+        return from;
+    }
+    let s = span_of(run, places, v);
+    next_tried(list, run, places, s.low, s.high, v, from)
+}
+
+// The value is in the list.
+fn has_listed(list: &[i64], w: Value) -> bool
+    ensures { λ r. ⌜ r ≡ elemZ (w .0) (now (list .entry)) ⌝ }
+{
+    let mut i = 0;
+    while i < list.len() {
+        if list[i] == w.0 {
+            return true;
+        }
+        i += 1;
+    }
+    false
+}
+
+// The same; by halving where the list is known to ascend.
+pub(crate) fn has_value(list: &[i64], ascends: bool, w: Value) -> bool
+    requires { ⌜ (ascends ≡ true → isAscending (now list) ≡ true) ⌝ }
+    ensures { λ r. ⌜ r ≡ elemZ (w .0) (now (list .entry)) ⌝ }
+{
+    if !ascends {
+        return has_listed(list, w);
+    }
+    let i = reach(list, w, Index(0));
+    let k = i.0;
+    if list.len() <= k {
+        return false;
+    }
+    list[k] == w.0
+}
+
+// So many members are worth an index, where so many values are looked for among them. The index has room for 2048.
+pub(crate) fn is_worth(members: usize, values: usize) -> bool
+    ensures { λ r. ⌜ (r ≡ true → members ≤ 2048) ⌝ }
+{
+    (16 < members) & (members <= 2048) & (64 < values)
+}
+
+// The first index whose value is the p of one of the records; the list's length if there is none.
+pub(crate) fn next_item(list: &[i64], run: &[u8], places: &[usize]) -> Index
+    requires { ⌜ (isAscending (now list) ≡ true) × Indexed (now run) (now places) ⌝ }
+    ensures { λ i. ⌜ i .0 ≡ least (λ k. elemZ (getD (now (list .entry)) k (pos 0)) (psOf (recordsOf (now (run .entry))))) 0 (length (now (list .entry))) ⌝ }
+{
+    let end = list.len();
+    let mut i = 0;
+    while i < end {
+        let x = list[i];
+        let k = lower(run, places, Value(x), Value(i64::MIN));
+        if places.len() <= k {
+            return Index(end);
+        }
+        let p = p_at(run, places[k]);
+        if p == x {
+            return Index(i);
+        }
+        let next = reach(list, Value(p), Index(i + 1));
+        i = next.0;
+    }
+    Index(i)
 }

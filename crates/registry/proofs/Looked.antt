@@ -11,15 +11,15 @@ use lib.ListN.{drop, getD, length, take}
 use lib.Signed.{ltZ}
 use Rattle.lists.proofs.Integers.{eqZ-eq, eqZ-refl}
 use Rattle.lists.proofs.Lists.{any-map}
-use Rattle.lists.proofs.Tests.{and-join, bool-ext, ltb-no, no-ge, or-true, yes-lt}
+use Rattle.lists.proofs.Tests.{and-false, and-join, bool-ext, ltb-no, no-ge, or-split, or-true, yes-lt}
 use Rattle.lists.specs.Integers.{elemZ, eqZ, littleEndian, signed64}
 use Rattle.lists.specs.Lists.{any}
 use Rattle.spec.specs.Code.{psOf}
 use Rattle.spec.specs.Record.{Record, entryOf, recordAt, recordOf, recordsOf}
 use Rattle.registry.specs.Check.{crossAllows, isPair}
-use Rattle.registry.specs.Index.{Indexed, placed}
+use Rattle.registry.specs.Index.{Bracket, Indexed, placed}
 use Rattle.registry.proofs.Cross.{any-key, any-pair, pairs}
-use Rattle.registry.proofs.Ordered.{Bracket, ltZ-irrefl, under, under-antisym, under-asym, under-between, under-none}
+use Rattle.registry.proofs.Ordered.{ltZ-irrefl, under, under-antisym, under-asym, under-between, under-none}
 
 -- No 64-bit number is below the lowest.
 signed-lowest : (n : ℕ) → ltZ (signed64 n) (negsuc 0x7fff_ffff_ffff_ffff) ≡ false
@@ -44,12 +44,12 @@ under-some : (v q w : ℤ) → ltZ q w ≡ true → under v q v w ≡ true
 under-some v q w h = rw (eqZ-refl v, h) (or-true (ltZ v v))
 
 module _ (test : Record → Bool) (f : ℕ → Record) where
-  any-get : (l : List ℕ) (m : ℕ) → m < length l → test (f (getD l m 0)) ≡ true → any test (map f l) ≡ true
+  pub any-get : (l : List ℕ) (m : ℕ) → m < length l → test (f (getD l m 0)) ≡ true → any test (map f l) ≡ true
   any-get [] m h e = absurd (omega arith)
   any-get (y ∷ l) zero h e = ap (λ (b : Bool). b || any test (map f l)) e
   any-get (y ∷ l) (suc m) h e = ap (λ (b : Bool). test (f y) || b) (any-get l m (omega arith) e) ∙ or-true (test (f y))
 
-  any-no : (l : List ℕ) → ((m : ℕ) → m < length l → test (f (getD l m 0)) ≡ false) → any test (map f l) ≡ false
+  pub any-no : (l : List ℕ) → ((m : ℕ) → m < length l → test (f (getD l m 0)) ≡ false) → any test (map f l) ≡ false
   any-no [] h = refl
   any-no (y ∷ l) h = ap₂ (λ (a b : Bool). a || b) (h 0 (omega arith)) (any-no l (λ m k. h (suc m) (omega arith)))
 
@@ -98,14 +98,17 @@ module _ (run places : List ℕ) (x : Indexed run places) (v w : ℤ) (k : ℕ) 
 
   -- ---- the value as a p
   module _ (low : (m : ℕ) → ltZ (at m .q) w ≡ false) where
-    before-low : (m : ℕ) → m < k → eqZ v (at m .p) ≡ false
-    before-low m l = refuted (eqZ v (at m .p)) (λ e. true≢false (sym (h .below m l) ∙ subst (λ (z : ℤ). under z (at m .q) v w ≡ false) (eqZ-eq v (at m .p) e) (under-none v (at m .q) w (low m))))
+    -- before place k no p is v or above it
+    before-low : (y : ℤ) → ltZ y v ≡ false → (m : ℕ) → m < k → eqZ y (at m .p) ≡ false
+    before-low y g m l =
+        let n : under y (at m .q) v w ≡ false = ap₂ (λ (a b : Bool). a || (eqZ y v && b)) g (low m) ∙ and-false (eqZ y v) in
+        refuted (eqZ y (at m .p)) (λ e. true≢false (sym (h .below m l) ∙ subst (λ (z : ℤ). under z (at m .q) v w ≡ false) (eqZ-eq y (at m .p) e) n))
 
     none-p : Past → any isIt (recordsOf run) ≡ false
     none-p g = unseen isIt (λ m l. go m l (ltb m k) refl)
       where
         go : (m : ℕ) → m < length places → (t : Bool) → ltb m k ≡ t → eqZ v (at m .p) ≡ false
-        go m l true t = before-low m (yes-lt m k t)
+        go m l true t = before-low v (ltZ-irrefl v) m (yes-lt m k t)
         go m l false t = past g m (no-ge m k t) l
 
     pub p-none : length places ≤ k → false ≡ elemZ v (psOf (recordsOf run))
@@ -117,6 +120,23 @@ module _ (run places : List ℕ) (x : Indexed run places) (v w : ℤ) (k : ℕ) 
         go : (t : Bool) → eqZ v (at k .p) ≡ t → t ≡ any isIt (recordsOf run)
         go true e = sym (seen isIt k l e)
         go false e = sym (none-p (inr (l, e)))
+
+    -- A value from v on that is below the p at place k, or any where there is no place k, is no p.
+    pub p-between : (y : ℤ) → ltZ y v ≡ false → (k < length places → ltZ y (at k .p) ≡ true) → elemZ y (psOf (recordsOf run)) ≡ false
+    p-between y n u = any-map (eqZ y) (λ (r : Record). r .p) (recordsOf run) ∙ unseen (λ (r : Record). eqZ y (r .p)) (λ m l. go m l (ltb m k) refl)
+      where
+        later : (m : ℕ) → m < length places → (t : Bool) → ltb k m ≡ t → k ≤ m → ltZ (at m .p) (at k .p) ≡ false
+        later m l true t g = or-split (ltZ (at m .p) (at k .p)) (eqZ (at m .p) (at k .p) && ltZ (at m .q) (at k .q)) (x .sorted .rising k m (yes-lt k m t) l) .0
+        later m l false t g =
+            let c = no-ge k m t in
+            let i : m ≡ k = omega arith in
+            ap (λ (j : ℕ). ltZ (at j .p) (at k .p)) i ∙ ltZ-irrefl (at k .p)
+
+        go : (m : ℕ) → m < length places → (t : Bool) → ltb m k ≡ t → eqZ y (at m .p) ≡ false
+        go m l true t = before-low y n m (yes-lt m k t)
+        go m l false t =
+            let g = no-ge m k t in
+            refuted (eqZ y (at m .p)) (λ e. true≢false (sym (u (omega arith)) ∙ ap (λ (z : ℤ). ltZ z (at k .p)) (eqZ-eq y (at m .p) e) ∙ later m l (ltb k m) refl g))
 
   -- ---- the values as a pair
   cross-is : crossAllows (map entryOf (recordsOf run)) v w ≡ (not (any isIt (recordsOf run)) || any (pairs v w) (recordsOf run))

@@ -78,6 +78,25 @@ head-code file i code = go (ltb i (length file / 32)) refl
     go false e c = let z : _≡_ {A = ℕ} 0 1 = cc in absurd (omega arith)
 
 -- ---- how many records stand before a section
+-- Those known to stand before it, and what stands before it of the rest.
+pub stands-known : (section i : ℕ) (ms : List Record) → i ≤ standsAt section ms → i + standsAt section (drop i ms) ≡ standsAt section ms
+stands-known section zero ms h = omega arith
+stands-known section (suc i) [] h = absurd (omega arith)
+stands-known section (suc i) (m ∷ ms) h = go (ltb (sectionOf (m .kind)) section) h (stands-known section i ms)
+  where
+    go : (b : Bool) → suc i ≤ cond b (suc (standsAt section ms)) 0 → (i ≤ standsAt section ms → i + standsAt section (drop i ms) ≡ standsAt section ms) → suc i + standsAt section (drop i ms) ≡ cond b (suc (standsAt section ms)) 0
+    go true l e = omega (arith, e (omega arith))
+    go false l e = absurd (omega arith)
+
+-- What stands before a section stands before a later one.
+pub stands-later : (a b : ℕ) (ms : List Record) → a ≤ b → standsAt a ms ≤ standsAt b ms
+stands-later a b [] h = omega arith
+stands-later a b (m ∷ ms) h = go (ltb (sectionOf (m .kind)) a) refl (stands-later a b ms h)
+  where
+    go : (t : Bool) → ltb (sectionOf (m .kind)) a ≡ t → standsAt a ms ≤ standsAt b ms → cond t (suc (standsAt a ms)) 0 ≤ standsAt b (m ∷ ms)
+    go true e l = let g = yes-lt (sectionOf (m .kind)) a e in rw (ltb-yes (sectionOf (m .kind)) b (omega arith)) (omega arith)
+    go false e l = omega arith
+
 module _ (section : ℕ) (file : List ℕ) where
   -- How many records from i on stand before the section.
   abbrev pub standsFrom : ℕ → ℕ

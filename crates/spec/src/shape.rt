@@ -39,11 +39,12 @@ pub(crate) fn heads(file: &[u8], section: u8) -> usize
     count
 }
 
-// How many records stand before the first of a section or a later one.
-pub(crate) fn stands_at(file: &[u8], section: u8) -> usize
+// How many records stand before the first of a section or a later one; `from` of them are known to.
+pub(crate) fn stands_at(file: &[u8], section: u8, from: usize) -> usize
+    requires { ⌜ from ≤ standsAt section (recordsOf (now file)) ⌝ }
     ensures { λ r. ⌜ r ≡ standsAt section (recordsOf (now (file .entry))) ⌝ }
 {
-    let mut i = 0;
+    let mut i = from;
     loop {
         let head = next_head(file, i);
         match head {
@@ -104,11 +105,11 @@ fn product_of(file: &[u8]) -> usize
 }
 
 // The total, which stops growing above the limit; 0 with no fields.
-pub(crate) fn total_of(file: &[u8]) -> usize
-    requires { ⌜ (length (now file) ≤ 65536) × (recordsFault (recordsOf (now file)) ≡ none) ⌝ }
+pub(crate) fn total_of(file: &[u8], fields: usize) -> usize
+    requires { ⌜ (recordsFault (recordsOf (now file)) ≡ none) × (fields ≡ countIf (isHead 0) (recordsOf (now file))) ⌝ }
     ensures { λ r. ⌜ r ≡ capped (total (decoded (now (file .entry)))) ⌝ }
 {
-    if heads(file, 0) == 0 {
+    if fields == 0 {
         return 0;
     }
     product_of(file)

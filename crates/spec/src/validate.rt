@@ -38,18 +38,20 @@ pub fn validate(file: &[u8]) -> Validation
     if fault.number != 0 {
         return Validation::Refused(fault);
     }
-    let total = total_of(file);
+    let fields = heads(file, 0);
+    let total = total_of(file, fields);
     if LIMIT < total {
         return Validation::Refused(Refusal {
             number: 10,
             record: 0,
         });
     }
+    let constraints_at = stands_at(file, 1, 0);
     Validation::Accepted(Shape {
-        fields: heads(file, 0),
+        fields,
         constraints: heads(file, 1),
-        constraints_at: stands_at(file, 1),
-        projector_at: stands_at(file, 2),
+        constraints_at,
+        projector_at: stands_at(file, 2, constraints_at),
         total,
     })
 }

@@ -1,6 +1,6 @@
 -- `classifier::page::page_mapped` meets its contract.
 use Prim.Native.Nat.{ℕ}
-use native.Mathlib.Nat.{le-of-eq}
+use native.Mathlib.Omega.{arith}
 use borrow.Author.Needs.{needs}
 use lib.ListN.{length-replicate}
 use Rattle.classifier.proofs.page.page_mapped.Statement.{statement}
@@ -10,7 +10,7 @@ slice-aggregate-tables-of : tie.Need-slice-aggregate-tables-of
 slice-aggregate-tables-of c = search needs
 
 tables-of-requires : tie.Need-tables-of-requires
-tables-of-requires c κs = let s = c .before .before .before .before .before .before .before .before .before in (s .pre .0 .planned .plan-in .places, le-of-eq (length-replicate {A = ℕ} 65536 0))
+tables-of-requires c κs = let s = c .before .before .before .before .before .before .before .before .before in (s .pre .0 .planned .plan-in .places, omega (arith, length-replicate {A = ℕ} 65536 0))
 
 slice-aggregate-lacks-table : tie.Need-slice-aggregate-lacks-table
 slice-aggregate-lacks-table c = search needs
@@ -18,14 +18,8 @@ slice-aggregate-lacks-table c = search needs
 lacks-table-requires : tie.Need-lacks-table-requires
 lacks-table-requires c κs = search needs
 
-slice-aggregate-page-wide : tie.Need-slice-aggregate-page-wide
-slice-aggregate-page-wide c = search needs
-
-slice-aggregate-page-wide-2 : tie.Need-slice-aggregate-page-wide-2
-slice-aggregate-page-wide-2 c = search needs
-
-page-wide-requires : tie.Need-page-wide-requires
-page-wide-requires c κs = search needs
+page-large-requires : tie.Need-page-large-requires
+page-large-requires c κs = search needs
 
 same-length : tie.Need-same-length
 same-length c = search needs
@@ -56,9 +50,7 @@ page-mapped-spec =
     tables-of-requires
     slice-aggregate-lacks-table
     lacks-table-requires
-    slice-aggregate-page-wide
-    slice-aggregate-page-wide-2
-    page-wide-requires
+    page-large-requires
     same-length
     returns
     slice-aggregate-write-page

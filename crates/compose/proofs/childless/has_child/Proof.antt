@@ -17,10 +17,10 @@ use Rattle.compose.proofs.childless.has_child.Statement.{statement}
 use Rattle.compose.proofs.childless.has_child.Tie as tie
 
 abbrev Inv-loop : tie.InvT-loop
-Inv-loop list run v n i₀ i = (i ≤ n) × (childAmong (v .0) list (drop i (recordsOf run)) ≡ childAmong (v .0) list (recordsOf run))
+Inv-loop list ascends run v n i₀ i = (i ≤ n) × (childAmong (v .0) list (drop i (recordsOf run)) ≡ childAmong (v .0) list (recordsOf run))
 
 abbrev μ-loop : tie.MeasureT-loop
-μ-loop list run v n i₀ i = n - i
+μ-loop list ascends run v n i₀ i = n - i
 
 loop-holds : tie.Need-loop-holds Inv-loop μ-loop
 loop-holds c = (omega arith, refl)

@@ -1,78 +1,34 @@
--- `compose::childless::is_childless_map` meets its contract. The invariant: some key is childless exactly where one of those from i on is.
-use mathlib.Core.Bool.{Bool}
-use mathlib.Core.List.{List, map}
-use mathlib.Core.Path.{_∙_, _≡_, ap, refl, sym}
-use Prim.Native.Nat.{_-_, _≤_, ℕ}
-use native.Mathlib.Numerals.{add-one}
-use native.Mathlib.Omega.{arith}
+-- `compose::childless::is_childless_map` meets its contract.
+use mathlib.Core.Path.{_∙_, sym}
 use borrow.Author.Needs.{needs}
-use lib.IntN.{pos, ℤ}
-use lib.ListN.{drop, drop-of-length-le, getD, length}
-use lib.Seq.{drop-cons}
-use Rattle.lists.specs.Lists.{any}
-use Rattle.spec.specs.Record.{entryOf, recordsOf}
-use Rattle.compose.specs.Maps.{childlessKey}
 use Rattle.compose.proofs.childless.is_childless_map.Statement.{statement}
 use Rattle.compose.proofs.childless.is_childless_map.Tie as tie
 
-abbrev isChildless : List ℤ → List ℕ → ℤ → Bool
-isChildless list run = childlessKey (map entryOf (recordsOf run)) list
+is-ascending-requires : tie.Need-is-ascending-requires
+is-ascending-requires c κs = search needs
 
-abbrev Inv-loop : tie.InvT-loop
-Inv-loop parents list run i₀ i = (i ≤ length parents) × (any (isChildless list run) (drop i parents) ≡ any (isChildless list run) parents)
+is-worth-requires : tie.Need-is-worth-requires
+is-worth-requires c κs = search needs
 
-abbrev μ-loop : tie.MeasureT-loop
-μ-loop parents list run i₀ i = length parents - i
+is-childless-indexed-requires : tie.Need-is-childless-indexed-requires
+is-childless-indexed-requires c κs = (c .before .is-worth .ensures (c .if1 .taken), λ e. sym (c .before .before .is-ascending .ensures) ∙ e)
 
-loop-holds : tie.Need-loop-holds Inv-loop μ-loop
-loop-holds c = (omega arith, refl)
+returns : tie.Need-returns
+returns c = search needs
 
-value-at-requires : tie.Need-value-at-requires Inv-loop μ-loop
-value-at-requires c κs = omega arith
+reads-childless-requires : tie.Need-reads-childless-requires
+reads-childless-requires c κs = λ e. sym (c .before .before .is-ascending .ensures) ∙ e
 
-is-childless-key-requires : tie.Need-is-childless-key-requires Inv-loop μ-loop
-is-childless-key-requires c κs = search needs
-
--- a turn's test
-turn : (c : tie.After-is-childless-key Inv-loop μ-loop)
-    → isChildless (c .before .before .before .before .before .args .list .now) (c .before .before .before .before .before .args .run .now) (getD (c .before .before .before .before .before .args .parents .now) (c .before .before .before .loop .i) (pos 0)) ≡ c .is-childless-key .result
-turn c = let s = c .before .before .before .before .before in ap (isChildless (s .args .list .now) (s .args .run .now)) (sym (c .before .value-at .ensures)) ∙ sym (c .is-childless-key .ensures)
-
-returns : tie.Need-returns Inv-loop μ-loop
-returns c =
-    let s = c .before .before .before .before .before .before in
-    let l = c .before .before .before .before .loop in
-    sym (sym (l .inv .1) ∙ rw (drop-cons (s .args .parents .now) (l .i) (pos 0) (omega arith)) (rw (turn (c .before) ∙ c .if1 .taken)))
-
-add-i : tie.Need-add-i Inv-loop μ-loop
-add-i c = search needs
-
-loop-less : tie.Need-loop-less Inv-loop μ-loop
-loop-less c = omega arith
-
-loop-again : tie.Need-loop-again Inv-loop μ-loop
-loop-again c =
-    let s = c .before .before .before .before .before .before in
-    let l = c .before .before .before .before .loop in
-    (omega arith, rw (add-one (l .i)) (sym (rw (drop-cons (s .args .parents .now) (l .i) (pos 0) (omega arith)) (rw (turn (c .before) ∙ c .if1 .left))) ∙ l .inv .1))
-
-returns-2 : tie.Need-returns-2 Inv-loop μ-loop
-returns-2 c =
-    let s = c .before .before .before in
-    let l = c .before .loop in
-    sym (sym (l .inv .1) ∙ rw (drop-of-length-le (s .args .parents .now) {i = l .i} (omega arith)))
+returns-2 : tie.Need-returns-2
+returns-2 c = search needs
 
 pub is-childless-map-spec : {M : Type 1} → statement M
 is-childless-map-spec =
     tie.close
     (tie.spec
-    Inv-loop
-    μ-loop
-    loop-holds
-    value-at-requires
-    is-childless-key-requires
+    is-ascending-requires
+    is-worth-requires
+    is-childless-indexed-requires
     returns
-    add-i
-    loop-less
-    loop-again
+    reads-childless-requires
     returns-2)

@@ -69,22 +69,22 @@ same-length c = search needs
 
 returns-3 : tie.Need-returns-3
 returns-3 c =
-    let l = c .before .before .before .before .before .before .before .before .before .before .before .before .args .list .now in
+    let l = c .before .before .before .before .before .before .before .before .before .before .before .before .before .args .list .now in
     let e = c .before .narrow-listed .ensures in
-    let k = narrowed (c .before .before .before .before .before) in
+    let k = narrowed (c .before .before .before .before .before .before) in
     (e .0 ∙ ap length k, e .1 ∙ ap (λ (z : List ℤ). over z l) k)
 
 narrow-requires : tie.Need-narrow-requires
-narrow-requires c κs = subst (λ r. maskIn (r .kind) (r .p) ≡ true) (sym (c .before .before .before .before .before .before .before .before .record-at .ensures .0)) (c .before .before .before .before .before .before .before .before .before .before .pre .mask)
+narrow-requires c κs = subst (λ r. maskIn (r .kind) (r .p) ≡ true) (sym (c .before .before .before .before .before .before .before .before .before .record-at .ensures .0)) (c .before .before .before .before .before .before .before .before .before .before .before .pre .mask)
 
 same-length-2 : tie.Need-same-length-2
 same-length-2 c = search needs
 
 returns-4 : tie.Need-returns-4
 returns-4 c =
-    let l = c .before .before .before .before .before .before .before .before .before .before .before .before .args .list .now in
+    let l = c .before .before .before .before .before .before .before .before .before .before .before .before .before .args .list .now in
     let e = c .before .narrow .ensures in
-    let k = narrowed (c .before .before .before .before .before) in
+    let k = narrowed (c .before .before .before .before .before .before) in
     (e .0 ∙ ap length k, e .1 ∙ ap (λ (z : List ℤ). over z l) k)
 
 pub narrow-by-spec : {M : Type 1} → statement M

@@ -36,11 +36,11 @@ room c rest = omega (arith, many c, length-append (c .index-run .last .1 .0) res
 array-share-prefix-places : tie.Need-array-share-prefix-places
 array-share-prefix-places c = room (c .before .before .before) _
 
-slice-aggregate-compact-found : tie.Need-slice-aggregate-compact-found
-slice-aggregate-compact-found c = sym (length-take-le _ _ (room (c .before .before .before .before) _))
+slice-aggregate-compact-items : tie.Need-slice-aggregate-compact-items
+slice-aggregate-compact-items c = sym (length-take-le _ _ (room (c .before .before .before .before) _))
 
-compact-found-requires : tie.Need-compact-found-requires
-compact-found-requires c κs =
+compact-items-requires : tie.Need-compact-items-requires
+compact-items-requires c κs =
     let r = c .before .before .before .before in
     subst (Indexed (r .before .before .before .before .args .run .now)) (sym (take-at (r .index-run .last .1 .0) _ _ (many r))) (r .index-run .ensures)
 
@@ -51,7 +51,7 @@ returns : tie.Need-returns
 returns c =
     let s = c .before .before .before .before .before .before .before .before .before .before .before in
     let h = s .args .h in
-    let f = c .before .before .compact-found in
+    let f = c .before .before .compact-items in
     found-none (h .code) (s .pre .0) (h .p) (h .q) (s .args .run .now) (s .args .list .now) (f .last .0) (f .result) (f .ensures .0) (f .ensures .1) (c .if1 .taken)
 
 same-length-2 : tie.Need-same-length-2
@@ -61,7 +61,7 @@ returns-2 : tie.Need-returns-2
 returns-2 c =
     let s = c .before .before .before .before .before .before .before .before .before .before .before in
     let h = s .args .h in
-    let f = c .before .before .compact-found in
+    let f = c .before .before .compact-items in
     found-some (h .code) (s .pre .0) (h .p) (h .q) (s .args .run .now) (s .args .list .now) (f .last .0) (f .result) (f .ensures .0) (f .ensures .1) (c .if1 .left)
 
 pub narrow-listed-spec : {M : Type 1} → statement M
@@ -74,8 +74,8 @@ narrow-listed-spec =
     slice-aggregate-index-run-2
     index-run-requires
     array-share-prefix-places
-    slice-aggregate-compact-found
-    compact-found-requires
+    slice-aggregate-compact-items
+    compact-items-requires
     same-length
     returns
     same-length-2

@@ -19,9 +19,8 @@ use Rattle.lists.specs.Integers.{eqZ}
 use Rattle.lists.specs.Lists.{any}
 use Rattle.spec.specs.Record.{entryOf, recordsOf}
 use Rattle.registry.proofs.Looked.{Past, eqZ-sym, pair-same}
-use Rattle.registry.proofs.Ordered.{Bracket, bracket-end}
 use Rattle.registry.specs.Check.{isPair}
-use Rattle.registry.specs.Index.{placed}
+use Rattle.registry.specs.Index.{Bracket, placed}
 use Rattle.compose.specs.Walk.{least}
 use Rattle.compose.proofs.Ascending.{notBelow, paired, paired-jump, paired-none}
 use Rattle.compose.proofs.Turns.{least-end, least-more, least-stop}
@@ -73,7 +72,7 @@ module _ (c : tie.After-lower Inv-loop μ-loop) where
   value = toZ-ofZ w64 w (sfits-of (c .before .if22 .given))
 
   bracket : Bracket run places v w k k
-  bracket = subst (λ (z : ℤ). Bracket run places v z k k) value (bracket-end (c .lower .ensures .0) (c .lower .ensures .1))
+  bracket = subst (λ (z : ℤ). Bracket run places v z k k) value (c .lower .ensures)
 
   -- it has another p, or there is none
   none : Past run places (c .before .before .before .before .before .before .pre .2) v w k bracket → length list ≡ least (paired list run v) (c .before .before .before .before .before .before .args .from .0) (length list - c .before .before .before .before .before .before .args .from .0)
@@ -125,22 +124,31 @@ module _ (c : tie.After-struct-told2 Inv-loop μ-loop) where
 code-at-requires : tie.Need-code-at-requires Inv-loop μ-loop
 code-at-requires c κs = let a = first (c .before) in a .before .before .before .before .before .before .pre .2 .sorted .inside (k a) (here (c .before))
 
+-- place k has v and the value at i: what its kind says
+same : (c : tie.After-code-at Inv-loop μ-loop) (b : Bool) → b ≡ eqb (c .code-at .result) 4
+    → (b || paired (list (first (c .before .before))) (run (first (c .before .before))) (v (first (c .before .before))) (i (first (c .before .before))))
+    ≡ paired (list (first (c .before .before))) (run (first (c .before .before))) (v (first (c .before .before))) (i (first (c .before .before)))
+same c b e =
+    let t = c .before .before in
+    let a = first t in
+    pair-same (run a) (places a) (a .before .before .before .before .before .before .pre .2) (v a) (w a) (k a) (bracket a) (here t) (p-same t) (sym (q-is t) ∙ eqb-yes _ _ (c .before .if3 .taken)) b (e ∙ ap (λ (n : ℕ). eqb n 4) (c .code-at .ensures))
+
+returns-3 : tie.Need-returns-3 Inv-loop μ-loop
+returns-3 c =
+    let a = first (c .before .before .before) in
+    sym (least-stop (paired (list a) (run a) (v a)) (length (list a)) (i a) (a .before .before .loop-test .taken) (sym (same (c .before) true (sym (eqb-yes _ _ (c .if4 .taken)))))) ∙ a .before .before .before .loop .inv .1
+
 has-pair-requires : tie.Need-has-pair-requires Inv-loop μ-loop
 has-pair-requires c κs = search needs
 
 -- the value at i is paired with v
-pair-is : (c : tie.After-has-pair Inv-loop μ-loop) → (eqb (c .before .code-at .result) 4 || c .has-pair .result) ≡ paired (list (first (c .before .before .before))) (run (first (c .before .before .before))) (v (first (c .before .before .before))) (i (first (c .before .before .before)))
-pair-is c =
-    let t = c .before .before .before in
-    let a = first t in
-    let o = c .before .code-at in
-    ap (λ (b : Bool). eqb (o .result) 4 || b) (c .has-pair .ensures ∙ ap (λ (z : ℤ). any (isPair (v a) z) (map entryOf (recordsOf (run a)))) (value a))
-    ∙ pair-same (run a) (places a) (a .before .before .before .before .before .before .pre .2) (v a) (w a) (k a) (bracket a) (here t) (p-same t) (sym (q-is t) ∙ eqb-yes _ _ (c .before .before .if3 .taken)) (eqb (o .result) 4) (ap (λ (n : ℕ). eqb n 4) (o .ensures))
+pair-is : (c : tie.After-has-pair Inv-loop μ-loop) → c .has-pair .result ≡ paired (list (first (c .before .before .before .before))) (run (first (c .before .before .before .before))) (v (first (c .before .before .before .before))) (i (first (c .before .before .before .before)))
+pair-is c = let a = first (c .before .before .before .before) in c .has-pair .ensures ∙ ap (λ (z : ℤ). any (isPair (v a) z) (map entryOf (recordsOf (run a)))) (value a)
 
-returns-3 : tie.Need-returns-3 Inv-loop μ-loop
-returns-3 c =
-    let a = first (c .before .before .before .before) in
-    sym (least-stop (paired (list a) (run a) (v a)) (length (list a)) (i a) (a .before .before .loop-test .taken) (sym (pair-is (c .before)) ∙ c .if4 .taken)) ∙ a .before .before .before .loop .inv .1
+returns-4 : tie.Need-returns-4 Inv-loop μ-loop
+returns-4 c =
+    let a = first (c .before .before .before .before .before) in
+    sym (least-stop (paired (list a) (run a) (v a)) (length (list a)) (i a) (a .before .before .loop-test .taken) (sym (pair-is (c .before)) ∙ c .if5 .taken)) ∙ a .before .before .before .loop .inv .1
 
 add-i : tie.Need-add-i Inv-loop μ-loop
 add-i c = search needs
@@ -150,12 +158,12 @@ loop-less c = search needs
 
 loop-again : tie.Need-loop-again Inv-loop μ-loop
 loop-again c =
-    let a = first (c .before .before .before .before) in
+    let a = first (c .before .before .before .before .before) in
     let h = a .before .before .loop-test .taken in
-    (omega arith, rw (add-one (i a)) (sym (least-more (paired (list a) (run a) (v a)) (length (list a)) (i a) h (sym (pair-is (c .before)) ∙ c .if4 .left)) ∙ a .before .before .before .loop .inv .1))
+    (omega arith, rw (add-one (i a)) (sym (least-more (paired (list a) (run a) (v a)) (length (list a)) (i a) h (sym (pair-is (c .before)) ∙ c .if5 .left)) ∙ a .before .before .before .loop .inv .1))
 
-add-t24 : tie.Need-add-t24 Inv-loop μ-loop
-add-t24 c = search needs
+add-t23 : tie.Need-add-t23 Inv-loop μ-loop
+add-t23 c = search needs
 
 reach-requires : tie.Need-reach-requires Inv-loop μ-loop
 reach-requires c κs = search needs
@@ -179,8 +187,8 @@ loop-less-2 c = let f = further c in omega (arith, f .0, f .1)
 loop-again-2 : tie.Need-loop-again-2 Inv-loop μ-loop
 loop-again-2 c = let f = further c in (f .1, sym (f .2) ∙ first (c .before .before) .before .before .before .loop .inv .1)
 
-returns-4 : tie.Need-returns-4 Inv-loop μ-loop
-returns-4 c =
+returns-5 : tie.Need-returns-5 Inv-loop μ-loop
+returns-5 c =
     let s = c .before .before .before .before in
     let l = c .before .loop in
     sym (least-end (paired (s .args .list .now) (s .args .run .now) (s .args .v .0)) (length (s .args .list .now)) (l .i) (omega arith)) ∙ l .inv .1
@@ -202,13 +210,14 @@ next-pair-spec =
     returns-2
     q-at-requires
     code-at-requires
-    has-pair-requires
     returns-3
+    has-pair-requires
+    returns-4
     add-i
     loop-less
     loop-again
-    add-t24
+    add-t23
     reach-requires
     loop-less-2
     loop-again-2
-    returns-4)
+    returns-5)

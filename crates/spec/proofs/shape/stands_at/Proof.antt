@@ -1,24 +1,24 @@
 -- `spec::shape::stands_at` meets its contract. The invariant: i records and those from i on that stand before the section are all that do.
 use mathlib.Core.Path.{_∙_, _≡_, ap, sym}
-use Prim.Native.Nat.{_+_, _-_, _/_, _<_, _≤_}
+use Prim.Native.Nat.{_+_, _-_, _/_, _<_}
 use native.Mathlib.Omega.{arith}
 use lib.ListN.{length}
 use borrow.Author.Needs.{needs}
 use Rattle.spec.specs.Kind.{kindOf, sectionOf}
-use Rattle.spec.specs.Record.{recordAt}
+use Rattle.spec.specs.Record.{recordAt, recordsOf}
 use Rattle.spec.proofs.Fields.{kind-of}
-use Rattle.spec.proofs.Shapes.{head-code, head-end, stands-end, stands-here, stands-past, standsFrom}
+use Rattle.spec.proofs.Shapes.{head-code, head-end, stands-end, stands-here, stands-known, stands-past, standsFrom}
 use Rattle.spec.proofs.shape.stands_at.Statement.{statement}
 use Rattle.spec.proofs.shape.stands_at.Tie as tie
 
 abbrev Inv-loop : tie.InvT-loop
-Inv-loop file section i₀ i = (i ≤ length file / 32) × (i + standsFrom section file i ≡ standsFrom section file 0)
+Inv-loop file section from i₀ i = i + standsFrom section file i ≡ standsFrom section file 0
 
 abbrev μ-loop : tie.MeasureT-loop
-μ-loop file section i₀ i = length file / 32 - i
+μ-loop file section from i₀ i = length file / 32 - i
 
 loop-holds : tie.Need-loop-holds Inv-loop μ-loop
-loop-holds c = omega arith
+loop-holds c = let s = c .before in stands-known (s .args .section) (s .args .from) (recordsOf (s .args .file .now)) (s .pre)
 
 next-head-requires : tie.Need-next-head-requires Inv-loop μ-loop
 next-head-requires c κs = search needs
@@ -31,7 +31,7 @@ returns c =
     let s = c .before .before .before .before .before in
     let l = c .before .before .before .loop in
     let e = head-end (s .args .file .now) (l .i) (sym (c .before .before .next-head .ensures) ∙ c .enum-told .given .1) in
-    omega (arith, e, stands-end (s .args .section) (s .args .file .now) (l .i) e, l .inv .1)
+    omega (arith, stands-end (s .args .section) (s .args .file .now) (l .i) e)
 
 enum-known-head : tie.Need-enum-known-head Inv-loop μ-loop
 enum-known-head c = c .match .keys2
@@ -67,7 +67,7 @@ loop-again c =
     let s = c .before .before .before .before .before .before .before .before in
     let l = c .before .before .before .before .before .before .loop in
     let e = section-is (c .before) in
-    omega (arith, e .0, stands-past (s .args .section) (s .args .file .now) (l .i) (e .0) (omega (arith, e .1)))
+    omega (arith, stands-past (s .args .section) (s .args .file .now) (l .i) (e .0) (omega (arith, e .1)))
 
 pub stands-at-spec : {M : Type 1} → statement M
 stands-at-spec =

@@ -1,4 +1,4 @@
--- `compose::childless::has_value` meets its contract. The invariant: the value is in the list exactly when it is among those from i on.
+-- `compose::finding::has_listed` meets its contract. The invariant: the value is in the list exactly when it is among those from i on.
 use mathlib.Core.Bool.{Bool, false, true}
 use mathlib.Core.Path.{_∙_, _≡_, refl, sym}
 use Prim.Native.Nat.{_-_, _≤_}
@@ -15,10 +15,8 @@ use Rattle.lists.specs.Integers.{elemZ, eqZ}
 use Rattle.lists.proofs.Tests.{eqb-no, eqb-yes}
 use Rattle.lists.proofs.Words.{eq-bits}
 use Rattle.registry.proofs.Looked.{eqZ-sym}
-use Rattle.compose.proofs.childless.has_value.Statement.{statement}
-use Rattle.compose.proofs.childless.has_value.Tie as tie
-
--- `compose::childless::has_value` meets its contract. The invariant: the value is in the list exactly when it is among those from i on.
+use Rattle.compose.proofs.finding.has_listed.Statement.{statement}
+use Rattle.compose.proofs.finding.has_listed.Tie as tie
 
 abbrev Inv-loop : tie.InvT-loop
 Inv-loop list w i₀ i = (i ≤ length list) × (elemZ (w .0) (drop i list) ≡ elemZ (w .0) list)
@@ -67,8 +65,8 @@ returns-2 c =
     let l = c .before .loop in
     sym (sym (l .inv .1) ∙ rw (drop-of-length-le (s .args .list .now) {i = l .i} (omega arith)))
 
-pub has-value-spec : {M : Type 1} → statement M
-has-value-spec =
+pub has-listed-spec : {M : Type 1} → statement M
+has-listed-spec =
     tie.close
     (tie.spec
     Inv-loop

@@ -1,0 +1,228 @@
+//! bench --search: random files, plainer and longer than those of the comparison, to find such as take longer than in the original.
+
+use crate::{count_once, needs, original_once, specification, ENGINES};
+use common::random::Random;
+use common::record::*;
+use ev::verify::registry::{ConstraintRegistry, ProjectorRegistry};
+use std::time::Instant;
+
+/// No file with more rows than this is tried.
+const ROWS: usize = 1_000_000;
+/// What a file may have left for members.
+const RECORDS: usize = 2_000;
+
+struct Maker {
+    random: Random,
+    records: Vec<Record>,
+    values: Vec<Vec<i64>>,
+    what: String,
+}
+
+impl Maker {
+    fn put(&mut self, kind: u8, a: usize, b: usize, p: i64, q: i64) {
+        self.records.push(record(kind, a as u8, b as u8, p, q, 0));
+    }
+
+    fn room(&self) -> usize {
+        RECORDS.saturating_sub(self.records.len())
+    }
+
+    /// A number up to n; a short one is as likely as a long one.
+    fn up_to(&mut self, n: usize) -> usize {
+        let share = self.random.below(1001) as f64 / 1000.0;
+        (n as f64).powf(share).round() as usize
+    }
+
+    /// A range, or so many listed values that rise, fall or lie in no order.
+    fn field(&mut self, length: usize) {
+        let f = self.values.len();
+        let form = self.random.below(4);
+        let mut values: Vec<i64> = (0..length as i64).collect();
+        if form == 0 || length > self.room() / 2 {
+            self.put(FIELD, f, 1, 0, length as i64 - 1);
+            self.what += &format!("range {length}; ");
+        } else {
+            match form {
+                1 => {}
+                2 => values.reverse(),
+                _ => self.random.shuffle(&mut values),
+            }
+            self.put(FIELD, f, 2, 0, 0);
+            for v in &values {
+                self.put(VALUE, f, 0, *v, 0);
+            }
+            let order = ["", "rising", "falling", "mixed"][form];
+            self.what += &format!("{length} {order}; ");
+        }
+        self.values.push(values);
+    }
+
+    fn value(&mut self, f: usize) -> i64 {
+        let k = self.random.below(self.values[f].len());
+        self.values[f][k]
+    }
+
+    fn map(&mut self, parent: usize, child: usize) {
+        let most = self.room() / 2;
+        if most < 2 {
+            return;
+        }
+        let pairs = self.up_to(most);
+        let many = self.values[parent].len().min(pairs);
+        let keys = if self.random.chance(50) {
+            many
+        } else {
+            self.up_to(many)
+        };
+        let each = (pairs / keys).max(1);
+        self.put(CROSS, parent, child, 0, 0);
+        let mut of = self.values[parent].clone();
+        if self.random.chance(50) {
+            self.random.shuffle(&mut of);
+        }
+        let mut members = Vec::new();
+        for key in of.into_iter().take(keys) {
+            for _ in 0..each {
+                members.push((key, self.value(child)));
+            }
+        }
+        match self.random.below(3) {
+            0 => self.random.shuffle(&mut members),
+            1 => members.sort(),
+            _ => {}
+        }
+        for (p, q) in members {
+            self.put(PAIR, 0, 0, p, q);
+        }
+        self.what += &format!("map {parent} to {child}, {keys} keys of {each}; ");
+    }
+
+    fn oneof(&mut self, f: usize) {
+        let most = self.values[f].len().min(self.room() / 2);
+        if most == 0 {
+            return;
+        }
+        let items = self.up_to(most);
+        self.put(ONEOF, f, 0, 0, 0);
+        for _ in 0..items {
+            let v = self.value(f);
+            self.put(ITEM, 0, 0, v, 0);
+        }
+        self.what += &format!("oneof on {f} of {items}; ");
+    }
+
+    fn constraint(&mut self) {
+        let n = self.values.len();
+        let (a, b) = (self.random.below(n), self.random.below(n));
+        let (v, w) = (self.value(a), self.value(b));
+        match self.random.below(10) {
+            0 => self.put(RANGE, a, 0, v.min(9), v.max(9)),
+            1 => self.put(LT, a, 0, v, 0),
+            2 => self.put(GE, a, 0, v, 0),
+            3 => self.put(NEQ, a, b, 0, 0),
+            4 => self.put(EVEN, a, 0, 0, 0),
+            5 => self.put(BITMASK, a, 0, v, 0),
+            6 => {
+                self.put(ENABLE_MASK, a, 0, v, 0);
+                self.put(DISABLE, b, 0, 0, 0);
+            }
+            7 => {
+                self.put(ENABLE_SET, a, 0, v, 0);
+                self.put(ASSIGN, b, 0, w, 0);
+            }
+            8 => return self.oneof(a),
+            _ if a != b => return self.map(a, b),
+            _ => return,
+        }
+        let kind = self.records.last().map_or(0, |r| r.kind);
+        self.what += &format!("{kind} on {a}; ");
+    }
+}
+
+/// A file, and what it has.
+fn file(seed: u64) -> (Vec<u8>, String) {
+    let mut m = Maker {
+        random: Random::new(seed),
+        records: Vec::new(),
+        values: Vec::new(),
+        what: String::new(),
+    };
+    let fields = 1 + m.random.below(4);
+    let mut rows = m.up_to(ROWS);
+    for _ in 0..fields {
+        let length = m.up_to(rows.min(300_000));
+        rows /= length;
+        m.field(length);
+    }
+    let constraints = m.random.below(6);
+    for _ in 0..constraints {
+        m.constraint();
+    }
+    m.put(SUM, 0, 0, 0, 0);
+    (write(&m.records), m.what)
+}
+
+/// The shortest of several calls, in nanoseconds.
+fn shortest(times: usize, mut call: impl FnMut()) -> f64 {
+    let mut best = f64::MAX;
+    for _ in 0..times {
+        let start = Instant::now();
+        call();
+        best = best.min(start.elapsed().as_nanos() as f64);
+    }
+    best
+}
+
+/// Tries files for so many seconds. Prints those on which count takes longer than the original does with its reading, and how many there are.
+pub fn search(seconds: f64, seed: u64) {
+    let constraints = ConstraintRegistry::default();
+    let projectors = ProjectorRegistry::default();
+    let start = Instant::now();
+    let (mut tried, mut slower, mut slower_read) = (0, 0, 0);
+    let mut next = seed << 32;
+    while start.elapsed().as_secs_f64() < seconds {
+        next += 1;
+        let (bytes, what) = file(next);
+        let Some(spec) = specification(&bytes) else {
+            continue;
+        };
+        let mut scratch = vec![0i64; needs(&bytes)[3]];
+        for (engine, word) in ENGINES {
+            let Some(counts) = count_once(engine, &bytes, &mut scratch) else {
+                continue;
+            };
+            let mut compared = |times: usize| {
+                let ours = shortest(times, || {
+                    count_once(engine, &bytes, &mut scratch);
+                });
+                let theirs = shortest(times, || {
+                    let answer = original_once(engine, &spec, &constraints, &projectors);
+                    assert_eq!(answer, counts, "{what}");
+                });
+                let reading = shortest(times, || {
+                    let spec = specification(&bytes).expect("refused");
+                    original_once(engine, &spec, &constraints, &projectors);
+                });
+                (theirs / ours, reading / ours, ours)
+            };
+            tried += 1;
+            if compared(1).0 >= 2.0 {
+                continue;
+            }
+            let (plain, read, ours) = compared(9);
+            if plain < 1.0 {
+                slower += 1;
+            }
+            if read < 1.0 {
+                slower_read += 1;
+                println!(
+                    "{read:.2} ({plain:.2} without its reading), {:.0} us, {word}, {} records, {} verdicts: {what}",
+                    ours / 1e3,
+                    bytes.len() / 32,
+                    counts[1]
+                );
+            }
+        }
+    }
+    println!("{tried} files and engines: on {slower} the original is faster, on {slower_read} with its reading counted too");
+}

@@ -1,0 +1,62 @@
+-- `compose::childless::is_childless_indexed` meets its contract: the front of the places is the index of the members.
+use mathlib.Core.Path.{_∙_, _≡_, subst, sym}
+use mathlib.Core.List.{List, _++_}
+use Prim.Native.Nat.{_/_, _≤_, ℕ}
+use native.Mathlib.Omega.{arith}
+use borrow.Author.Needs.{needs}
+use lib.ListN.{length, length-append}
+use lib.Seq.{length-take-le, take-at}
+use Rattle.registry.specs.Index.{Indexed}
+use Rattle.compose.proofs.childless.is_childless_indexed.Statement.{statement}
+use Rattle.compose.proofs.childless.is_childless_indexed.Tie as tie
+
+array-borrow-prefix-places : tie.Need-array-borrow-prefix-places
+array-borrow-prefix-places c = search needs
+
+slice-aggregate-index-run : tie.Need-slice-aggregate-index-run
+slice-aggregate-index-run c = sym (length-take-le _ _ (c .before .before .pre .0))
+
+array-borrow-prefix-spare : tie.Need-array-borrow-prefix-spare
+array-borrow-prefix-spare c = search needs
+
+slice-aggregate-index-run-2 : tie.Need-slice-aggregate-index-run-2
+slice-aggregate-index-run-2 c = sym (length-take-le _ _ (c .before .before .before .pre .0))
+
+index-run-requires : tie.Need-index-run-requires
+index-run-requires c κs = (length-take-le _ _ (c .before .before .before .pre .0), length-take-le _ _ (c .before .before .before .pre .0))
+
+-- the index has a place for each member
+many : (c : tie.After-index-run) → length (c .index-run .last .1 .0) ≡ length (c .before .before .before .before .args .run .now) / 32
+many c = c .index-run .kept .1 .0 ∙ length-take-le _ _ (c .before .before .before .before .pre .0)
+
+room : (c : tie.After-index-run) (rest : List ℕ) → length (c .before .before .before .before .args .run .now) / 32 ≤ length (c .index-run .last .1 .0 ++ rest)
+room c rest = omega (arith, many c, length-append (c .index-run .last .1 .0) rest)
+
+array-share-prefix-places : tie.Need-array-share-prefix-places
+array-share-prefix-places c = room (c .before .before) _
+
+slice-aggregate-finds-childless : tie.Need-slice-aggregate-finds-childless
+slice-aggregate-finds-childless c = sym (length-take-le _ _ (room (c .before .before .before) _))
+
+finds-childless-requires : tie.Need-finds-childless-requires
+finds-childless-requires c κs =
+    let r = c .before .before .before in
+    let s = r .before .before .before .before in
+    (subst (Indexed (s .args .run .now)) (sym (take-at (r .index-run .last .1 .0) _ _ (many r))) (r .index-run .ensures), s .pre .1)
+
+returns : tie.Need-returns
+returns c = search needs
+
+pub is-childless-indexed-spec : {M : Type 1} → statement M
+is-childless-indexed-spec =
+    tie.close
+    (tie.spec
+    array-borrow-prefix-places
+    slice-aggregate-index-run
+    array-borrow-prefix-spare
+    slice-aggregate-index-run-2
+    index-run-requires
+    array-share-prefix-places
+    slice-aggregate-finds-childless
+    finds-childless-requires
+    returns)
