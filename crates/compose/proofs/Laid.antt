@@ -25,10 +25,10 @@ use Rattle.compose.proofs.Positions.{groups-done, groups-loop}
 use Rattle.compose.specs.Tuples.{padded}
 
 -- ---- a field where it lies
-abbrev fieldAt : List ℕ → ℕ → ℕ → FieldSpec
+abbrev pub fieldAt : List ℕ → ℕ → ℕ → FieldSpec
 fieldAt file head end = fieldBy (recordAt file head .b) (recordAt file head) (take (end - suc head) (drop (suc head) (recordsOf file)))
 
-field-group : (file : List ℕ) (head end : ℕ) → FieldIn file head end → fieldOf (groupIn file head end) ≡ fieldAt file head end ∷ []
+pub field-group : (file : List ℕ) (head end : ℕ) → FieldIn file head end → fieldOf (groupIn file head end) ≡ fieldAt file head end ∷ []
 field-group file head end is = ap (λ (k : Kind). fieldIn k (recordAt file head) (take (end - suc head) (drop (suc head) (recordsOf file)))) (kind-of file head ∙ ap kindOf (is .is-field) ∙ field-kind)
 
 -- read as h, with the bytes of its values

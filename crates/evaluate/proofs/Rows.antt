@@ -2,20 +2,18 @@
 use mathlib.Core.Bool.{Bool, false, true}
 use mathlib.Core.List.{List, [], _++_, _∷_, map}
 use mathlib.Core.Path.{_∙_, _≡_, ap, ap₂, refl, subst, sym}
-use Prim.Native.Nat.{_+_, _-_, _<_, _≤_, suc, zero, ℕ}
+use Prim.Native.Nat.{_+_, _<_, _≤_, suc, zero, ℕ}
 use native.Mathlib.Nat.{zero-add}
 use native.Mathlib.Numerals.{add-one}
 use native.Mathlib.Omega.{arith}
 use lib.IntN.{pos, ℤ}
-use lib.ListN.{drop, getD, length, take}
+use lib.ListN.{drop, getD, length}
 use lib.Seq.{drop-cons}
 use Rattle.lists.specs.Lists.{concatMap, firstFalse, further, mapFrom, placeAt}
 use Rattle.lists.proofs.All.{All, All-at}
-use Rattle.spec.specs.Code.{asRecord}
 use Rattle.spec.specs.Domain.{allows, domain, domains}
-use Rattle.spec.specs.Record.{Group, fieldBy, fieldOf, recordAt, recordsOf}
+use Rattle.spec.specs.Record.{Group, fieldOf}
 use Rattle.spec.specs.Spec.{FieldSpec, Spec}
-use Rattle.spec.specs.declared.records.Record as code
 use Rattle.spec.proofs.Domain.{domain-allowed}
 use Rattle.spec.proofs.Named.{width}
 use Rattle.compose.specs.Code.{FieldsIn, fieldsIn}
@@ -23,7 +21,7 @@ use Rattle.compose.specs.Maps.{allowed, allowedLists, listAt}
 use Rattle.compose.specs.Tuples.{Engine, exhaustive, listsOf, structural, values}
 use Rattle.compose.specs.Walk.{Placed, lengthAt, planOf}
 use Rattle.compose.proofs.Allowed.{allowed-allows}
-use Rattle.compose.proofs.Laid.{field-here}
+use Rattle.compose.proofs.Laid.{field-group, fieldAt}
 use Rattle.compose.proofs.Positions.{groups-end, groups-turn}
 use Rattle.evaluate.specs.Code.{behind}
 use Rattle.evaluate.specs.Verdict.{fieldChecks}
@@ -41,28 +39,36 @@ pub behind-more : (f k : ℕ) → behind f (further k) ≡ behind (f + 1) k
 behind-more f zero = refl
 behind-more f (suc k) = omega arith
 
-module _ (file fields : List ℕ) (row : List ℤ) (f : ℕ) (inside : FieldsIn file fields) (long : length fields ≡ suc (length row)) where
-  module _ (h : code.Record) (bytes : List ℕ) (l : f < length row) (read : asRecord h ≡ recordAt file (getD fields f 0))
-      (run : recordsOf bytes ≡ take (getD fields (f + 1) 0 - (getD fields f 0 + 1)) (drop (getD fields f 0 + 1) (recordsOf file))) where
-    -- the field at f
-    abbrev here : FieldSpec
-    here = fieldBy (h .b) (asRecord h) (recordsOf bytes)
+-- where every check passes, the first does and the others do
+placed-none : (b : Bool) (k : ℕ) → placeAt b k ≡ 0 → (b ≡ true) × (k ≡ 0)
+placed-none true zero e = (refl, refl)
+placed-none true (suc k) e = absurd (omega arith)
+placed-none false k e = absurd (omega arith)
 
-    fields-turn : firstFalse (fieldChecks (fieldsIn file (drop f fields)) (drop f row)) ≡ placeAt (allows here (getD row f (pos 0))) (firstFalse (fieldChecks (fieldsIn file (drop (f + 1) fields)) (drop (f + 1) row)))
+module _ (file fields : List ℕ) (row : List ℤ) (f : ℕ) (inside : FieldsIn file fields) (long : length fields ≡ suc (length row)) where
+  module _ (l : f < length row) where
+    -- the check of the field at f, and what those after it say
+    abbrev here : Bool
+    here = allows (fieldAt file (getD fields f 0) (getD fields (suc f) 0)) (getD row f (pos 0))
+
+    abbrev after : ℕ
+    after = firstFalse (fieldChecks (fieldsIn file (drop (f + 1) fields)) (drop (f + 1) row))
+
+    fields-turn : firstFalse (fieldChecks (fieldsIn file (drop f fields)) (drop f row)) ≡ placeAt here after
     fields-turn = rw (add-one f)
         (ap₂ (λ (ds : List FieldSpec) (vs : List ℤ). firstFalse (fieldChecks ds vs))
         (ap (λ (gs : List Group). concatMap fieldOf gs) (groups-turn file fields f (omega arith))
-        ∙ ap (λ (ds : List FieldSpec). ds ++ fieldsIn file (drop (suc f) fields)) (field-here h file bytes (getD fields f 0) (getD fields (suc f) 0) (inside f (omega arith)) read (run ∙ rw (add-one f, add-one (getD fields f 0)))))
+        ∙ ap (λ (ds : List FieldSpec). ds ++ fieldsIn file (drop (suc f) fields)) (field-group file (getD fields f 0) (getD fields (suc f) 0) (inside f (omega arith))))
         (drop-cons row f (pos 0) l))
 
-    pub fields-stop : allows here (getD row f (pos 0)) ≡ false → behind f (firstFalse (fieldChecks (fieldsIn file (drop f fields)) (drop f row))) ≡ f + 1
-    fields-stop e = ap (behind f) (fields-turn ∙ ap (λ (b : Bool). placeAt b (firstFalse (fieldChecks (fieldsIn file (drop (f + 1) fields)) (drop (f + 1) row)))) e)
+    pub fields-stop : here ≡ false → behind f (firstFalse (fieldChecks (fieldsIn file (drop f fields)) (drop f row))) ≡ f + 1
+    fields-stop e = ap (behind f) (fields-turn ∙ ap (λ (b : Bool). placeAt b after) e)
 
-    pub fields-more : allows here (getD row f (pos 0)) ≡ true
-        → behind f (firstFalse (fieldChecks (fieldsIn file (drop f fields)) (drop f row))) ≡ behind (f + 1) (firstFalse (fieldChecks (fieldsIn file (drop (f + 1) fields)) (drop (f + 1) row)))
-    fields-more e =
-        ap (behind f) (fields-turn ∙ ap (λ (b : Bool). placeAt b (firstFalse (fieldChecks (fieldsIn file (drop (f + 1) fields)) (drop (f + 1) row)))) e)
-        ∙ behind-more f (firstFalse (fieldChecks (fieldsIn file (drop (f + 1) fields)) (drop (f + 1) row)))
+    pub fields-more : here ≡ true → behind f (firstFalse (fieldChecks (fieldsIn file (drop f fields)) (drop f row))) ≡ behind (f + 1) after
+    fields-more e = ap (behind f) (fields-turn ∙ ap (λ (b : Bool). placeAt b after) e) ∙ behind-more f after
+
+    pub fields-passed : firstFalse (fieldChecks (fieldsIn file (drop f fields)) (drop f row)) ≡ 0 → (here ≡ true) × (after ≡ 0)
+    fields-passed e = placed-none here after (sym fields-turn ∙ e)
 
   pub fields-end : length row ≤ f → behind f (firstFalse (fieldChecks (fieldsIn file (drop f fields)) (drop f row))) ≡ 0
   fields-end l = ap (λ (gs : List Group). behind f (firstFalse (fieldChecks (concatMap fieldOf gs) (drop f row)))) (groups-end file fields f (omega arith))

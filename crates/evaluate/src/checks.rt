@@ -17,18 +17,20 @@ ghost use Rattle.compose.specs.Code.{fieldsIn, FieldsIn};
 ghost use Rattle.evaluate.specs.Verdict.{fieldChecks, ifPassed};
 ghost use Rattle.evaluate.specs.Code.{behind, ChecksIn, firstChosen, holdsAt};
 
-// The first field whose check fails, counted from 1; 0 if none does.
-pub fn failing_field(file: &[u8], fields: &[usize], row: &[i64]) -> usize
-    requires { ⌜ FieldsIn (now file) (now fields) × (length (now fields) ≡ suc (length (now row))) ⌝ }
+// The first field whose check fails, counted from 1; 0 if none does. Those of the raw row pass, so only values that are not its are looked at.
+pub fn failing_field(file: &[u8], fields: &[usize], raw: &[i64], row: &[i64]) -> usize
+    requires { ⌜ FieldsIn (now file) (now fields) × (length (now fields) ≡ suc (length (now row))) × (length (now raw) ≡ length (now row)) × (firstFalse (fieldChecks (fieldsIn (now file) (now fields)) (now raw)) ≡ 0) ⌝ }
     ensures { λ r. ⌜ r ≡ firstFalse (fieldChecks (fieldsIn (now (file .entry)) (now (fields .entry))) (now (row .entry))) ⌝ }
 {
     let mut f = 0;
     while f < row.len() {
-        let head = fields[f];
-        let h = record_at(file, head);
-        let values = part(file, head + 1, fields[f + 1]);
-        if !allows_value(h, values, Value(row[f])) {
-            return f + 1;
+        if row[f] != raw[f] {
+            let head = fields[f];
+            let h = record_at(file, head);
+            let values = part(file, head + 1, fields[f + 1]);
+            if !allows_value(h, values, Value(row[f])) {
+                return f + 1;
+            }
         }
         f += 1;
     }
