@@ -161,7 +161,7 @@ enables-of-requires c κs =
     (constraints-low (s .args .file .now) (s .args .heads .now) (length (s .args .order .now)) (s .args .c) (s .pre .0 .opened) structural (s .args .c) refl, lent-few (s .args .file .now) (s .args .heads .now) (length (s .args .order .now)) (s .args .c) (s .pre .0 .opened), refl)
 
 first-of-requires : tie.Need-first-of-requires Inv-loop μ-loop
-first-of-requires c κs = let s = c .before .before .before .before .before .before .before .before .before .before .before .before .before .before in (s .pre .0 .planned .plan-in, walking-walks (asEngine (s .args .engine)) (s .args .file .now) (s .args .heads .now) (s .args .c) (s .args .checks .now) (s .args .due .now) (s .args .scratch .now) (s .args .lists .now) (s .args .maps .now) (s .args .order .now) (s .pre .0), s .pre .3)
+first-of-requires c κs = let s = c .before .before .before .before .before .before .before .before .before .before .before .before .before .before in (s .pre .0 .planned .plan-in, s .pre .2, walking-walks (asEngine (s .args .engine)) (s .args .file .now) (s .args .heads .now) (s .args .c) (s .args .checks .now) (s .args .due .now) (s .args .scratch .now) (s .args .lists .now) (s .args .maps .now) (s .args .order .now) (s .pre .0), s .pre .3)
 
 start-tuple-requires : tie.Need-start-tuple-requires Inv-loop μ-loop
 start-tuple-requires c κs = tt
