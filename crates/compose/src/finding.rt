@@ -1,4 +1,5 @@
 // Looking through a list by an index of members: the next value that a kept map lets stand, the next that is one of the items.
+use crate::sieve::is_out;
 use registry::check::has_pair;
 use registry::sorting::finds_p;
 use registry::sorting::lower;
@@ -22,7 +23,7 @@ ghost use Rattle.spec.specs.Record.{entryOf, recordsOf};
 ghost use Rattle.registry.specs.Check.{crossAllows, isPair};
 ghost use Rattle.registry.specs.Index.{Bracket, Indexed, Sorted, Spans};
 ghost use Rattle.compose.specs.Walk.{least};
-ghost use Rattle.compose.specs.Code.{isAscending};
+ghost use Rattle.compose.specs.Code.{isAscending, Sieves};
 
 // No value is below the one before it.
 pub(crate) fn is_ascending(list: &[i64]) -> bool
@@ -198,12 +199,15 @@ fn has_listed(list: &[i64], w: Value) -> bool
     false
 }
 
-// The same; by halving where the list is known to ascend.
-pub(crate) fn has_value(list: &[i64], ascends: bool, w: Value) -> bool
-    requires { ⌜ (ascends ≡ true → isAscending (now list) ≡ true) ⌝ }
+// The same; by halving where the list is known to ascend, else of what its sieve lets through.
+pub(crate) fn has_value(list: &[i64], ascends: bool, sieve: &[u8], w: Value) -> bool
+    requires { ⌜ (ascends ≡ true → isAscending (now list) ≡ true) × Sieves (now sieve) (now list) ⌝ }
     ensures { λ r. ⌜ r ≡ elemZ (w .0) (now (list .entry)) ⌝ }
 {
     if !ascends {
+        if is_out(sieve, w) {
+            return false;
+        }
         return has_listed(list, w);
     }
     let i = reach(list, w, Index(0));

@@ -8,5 +8,6 @@ pub mod maps;
 mod ordering;
 pub mod places;
 pub mod plan;
+mod sieve;
 pub mod steps;
 pub mod tables;

@@ -17,10 +17,10 @@ use Rattle.compose.proofs.childless.has_child.Statement.{statement}
 use Rattle.compose.proofs.childless.has_child.Tie as tie
 
 abbrev Inv-loop : tie.InvT-loop
-Inv-loop list ascends run v n i₀ i = (i ≤ n) × (childAmong (v .0) list (drop i (recordsOf run)) ≡ childAmong (v .0) list (recordsOf run))
+Inv-loop list ascends sieve run v n i₀ i = (i ≤ n) × (childAmong (v .0) list (drop i (recordsOf run)) ≡ childAmong (v .0) list (recordsOf run))
 
 abbrev μ-loop : tie.MeasureT-loop
-μ-loop list ascends run v n i₀ i = n - i
+μ-loop list ascends sieve run v n i₀ i = n - i
 
 loop-holds : tie.Need-loop-holds Inv-loop μ-loop
 loop-holds c = (omega arith, refl)
@@ -35,14 +35,14 @@ has-value-requires : tie.Need-has-value-requires Inv-loop μ-loop
 has-value-requires c κs = search needs
 
 -- the value that is looked for is the record's q
-looked : (c : tie.After-has-value Inv-loop μ-loop) → elemZ (recordAt (c .before .before .before .before .before .before .before .args .run .now) (c .before .before .before .before .before .loop .i) .q) (c .before .before .before .before .before .before .before .args .list .now) ≡ c .has-value .result
+looked : (c : tie.After-has-value Inv-loop μ-loop) → elemZ (recordAt (c .before .before .before .before .before .before .before .before .args .run .now) (c .before .before .before .before .before .loop .i) .q) (c .before .before .before .before .before .before .before .before .args .list .now) ≡ c .has-value .result
 looked c =
     let q = c .before .q-at in
-    ap (λ (x : ℤ). elemZ x (c .before .before .before .before .before .before .before .args .list .now)) (sym (q .ensures) ∙ sym (toZ-ofZ w64 (q .result) (sfits-of (q .ok)))) ∙ sym (c .has-value .ensures)
+    ap (λ (x : ℤ). elemZ x (c .before .before .before .before .before .before .before .before .args .list .now)) (sym (q .ensures) ∙ sym (toZ-ofZ w64 (q .result) (sfits-of (q .ok)))) ∙ sym (c .has-value .ensures)
 
 returns : tie.Need-returns Inv-loop μ-loop
 returns c =
-    let s = c .before .before .before .before .before .before .before .before in
+    let s = c .before .before .before .before .before .before .before .before .before in
     let l = c .before .before .before .before .before .before .loop in
     let t = c .before .before .before in
     sym (sym (l .inv .1) ∙ child-stop (s .args .v .0) (s .args .list .now) (s .args .run .now) (l .i) (omega arith) (sym (t .before .is-pair-of .ensures) ∙ t .if1 .taken) (looked (c .before) ∙ c .if2 .taken))
@@ -55,7 +55,7 @@ loop-less c = search needs
 
 loop-again : tie.Need-loop-again Inv-loop μ-loop
 loop-again c =
-    let s = c .before .before .before .before .before in
+    let s = c .before .before .before .before .before .before in
     let l = c .before .before .before .loop in
     let v = s .args .v .0 in
     let list = s .args .list .now in
@@ -71,7 +71,7 @@ loop-again c =
 
 returns-2 : tie.Need-returns-2 Inv-loop μ-loop
 returns-2 c =
-    let s = c .before .before .before in
+    let s = c .before .before .before .before in
     let l = c .before .loop in
     let run = s .args .run .now in
     let v = s .args .v .0 in

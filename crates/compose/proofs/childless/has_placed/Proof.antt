@@ -40,10 +40,10 @@ module _ (list : List ℤ) (run places : List ℕ) (k : ℕ) (h : k < length pla
       ∙ ap (λ (t : Bool). t || childAt list run (drop (suc k) places)) (any-with (eqb (r .code) 4) (r .q) list ∙ ap₂ _&&_ e f)
 
 abbrev Inv-loop : tie.InvT-loop
-Inv-loop list ascends run places k₀ k = (k ≤ length places) × (childAt list run (drop k places) ≡ childAt list run places)
+Inv-loop list ascends sieve run places k₀ k = (k ≤ length places) × (childAt list run (drop k places) ≡ childAt list run places)
 
 abbrev μ-loop : tie.MeasureT-loop
-μ-loop list ascends run places k₀ k = length places - k
+μ-loop list ascends sieve run places k₀ k = length places - k
 
 loop-holds : tie.Need-loop-holds Inv-loop μ-loop
 loop-holds c = (omega arith, refl)
@@ -55,24 +55,24 @@ shared-slice-read-r : tie.Need-shared-slice-read-r Inv-loop μ-loop
 shared-slice-read-r c = search needs
 
 code-at-requires : tie.Need-code-at-requires Inv-loop μ-loop
-code-at-requires c κs = c .before .before .before .before .before .pre .0 (c .before .before .loop .k) (omega arith)
+code-at-requires c κs = c .before .before .before .before .before .before .pre .0 (c .before .before .loop .k) (omega arith)
 
 q-at-requires : tie.Need-q-at-requires Inv-loop μ-loop
-q-at-requires c κs = c .before .before .before .before .before .before .before .pre .0 (c .before .before .before .before .loop .k) (omega arith)
+q-at-requires c κs = c .before .before .before .before .before .before .before .before .pre .0 (c .before .before .before .before .loop .k) (omega arith)
 
 has-value-requires : tie.Need-has-value-requires Inv-loop μ-loop
-has-value-requires c κs = c .before .before .before .before .before .before .before .before .pre .1
+has-value-requires c κs = let s = c .before .before .before .before .before .before .before .before .before in (s .pre .1, s .pre .2)
 
 -- the value that is looked for is the record's q
 looked : (c : tie.After-has-value Inv-loop μ-loop)
-    → elemZ (placed (c .before .before .before .before .before .before .before .before .before .args .run .now) (c .before .before .before .before .before .before .before .before .before .args .places .now) (c .before .before .before .before .before .before .loop .k) .q) (c .before .before .before .before .before .before .before .before .before .args .list .now) ≡ c .has-value .result
+    → elemZ (placed (c .before .before .before .before .before .before .before .before .before .before .args .run .now) (c .before .before .before .before .before .before .before .before .before .before .args .places .now) (c .before .before .before .before .before .before .loop .k) .q) (c .before .before .before .before .before .before .before .before .before .before .args .list .now) ≡ c .has-value .result
 looked c =
     let q = c .before .q-at in
-    ap (λ (x : ℤ). elemZ x (c .before .before .before .before .before .before .before .before .before .args .list .now)) (sym (q .ensures) ∙ sym (toZ-ofZ w64 (q .result) (sfits-of (q .ok)))) ∙ sym (c .has-value .ensures)
+    ap (λ (x : ℤ). elemZ x (c .before .before .before .before .before .before .before .before .before .before .args .list .now)) (sym (q .ensures) ∙ sym (toZ-ofZ w64 (q .result) (sfits-of (q .ok)))) ∙ sym (c .has-value .ensures)
 
 returns : tie.Need-returns Inv-loop μ-loop
 returns c =
-    let s = c .before .before .before .before .before .before .before .before .before .before in
+    let s = c .before .before .before .before .before .before .before .before .before .before .before in
     let l = c .before .before .before .before .before .before .before .loop in
     let t = c .before .before .before in
     sym (sym (l .inv .1) ∙ child-more (s .args .list .now) (s .args .run .now) (s .args .places .now) (l .k) (omega arith) true true (ap (λ (n : ℕ). eqb n 4) (sym (t .before .code-at .ensures)) ∙ eqb-yes _ _ (t .if1 .taken)) (looked (c .before) ∙ c .if2 .taken))
@@ -85,7 +85,7 @@ loop-less c = search needs
 
 loop-again : tie.Need-loop-again Inv-loop μ-loop
 loop-again c =
-    let s = c .before .before .before .before .before .before .before in
+    let s = c .before .before .before .before .before .before .before .before in
     let l = c .before .before .before .before .loop in
     let list = s .args .list .now in
     let run = s .args .run .now in
@@ -101,7 +101,7 @@ loop-again c =
 
 returns-2 : tie.Need-returns-2 Inv-loop μ-loop
 returns-2 c =
-    let s = c .before .before .before .before in
+    let s = c .before .before .before .before .before in
     let l = c .before .loop in
     let list = s .args .list .now in
     let run = s .args .run .now in

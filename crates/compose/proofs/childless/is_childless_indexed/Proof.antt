@@ -14,22 +14,22 @@ array-borrow-prefix-places : tie.Need-array-borrow-prefix-places
 array-borrow-prefix-places c = search needs
 
 slice-aggregate-index-run : tie.Need-slice-aggregate-index-run
-slice-aggregate-index-run c = sym (length-take-le _ _ (c .before .before .pre .0))
+slice-aggregate-index-run c = sym (length-take-le _ _ (c .before .before .before .pre .0))
 
 array-borrow-prefix-spare : tie.Need-array-borrow-prefix-spare
 array-borrow-prefix-spare c = search needs
 
 slice-aggregate-index-run-2 : tie.Need-slice-aggregate-index-run-2
-slice-aggregate-index-run-2 c = sym (length-take-le _ _ (c .before .before .before .pre .0))
+slice-aggregate-index-run-2 c = sym (length-take-le _ _ (c .before .before .before .before .pre .0))
 
 index-run-requires : tie.Need-index-run-requires
-index-run-requires c κs = (length-take-le _ _ (c .before .before .before .pre .0), length-take-le _ _ (c .before .before .before .pre .0))
+index-run-requires c κs = (length-take-le _ _ (c .before .before .before .before .pre .0), length-take-le _ _ (c .before .before .before .before .pre .0))
 
 -- the index has a place for each member
-many : (c : tie.After-index-run) → length (c .index-run .last .1 .0) ≡ length (c .before .before .before .before .args .run .now) / 32
-many c = c .index-run .kept .1 .0 ∙ length-take-le _ _ (c .before .before .before .before .pre .0)
+many : (c : tie.After-index-run) → length (c .index-run .last .1 .0) ≡ length (c .before .before .before .before .before .args .run .now) / 32
+many c = c .index-run .kept .1 .0 ∙ length-take-le _ _ (c .before .before .before .before .before .pre .0)
 
-room : (c : tie.After-index-run) (rest : List ℕ) → length (c .before .before .before .before .args .run .now) / 32 ≤ length (c .index-run .last .1 .0 ++ rest)
+room : (c : tie.After-index-run) (rest : List ℕ) → length (c .before .before .before .before .before .args .run .now) / 32 ≤ length (c .index-run .last .1 .0 ++ rest)
 room c rest = omega (arith, many c, length-append (c .index-run .last .1 .0) rest)
 
 array-share-prefix-places : tie.Need-array-share-prefix-places
@@ -41,8 +41,8 @@ slice-aggregate-finds-childless c = sym (length-take-le _ _ (room (c .before .be
 finds-childless-requires : tie.Need-finds-childless-requires
 finds-childless-requires c κs =
     let r = c .before .before .before in
-    let s = r .before .before .before .before in
-    (subst (Indexed (s .args .run .now)) (sym (take-at (r .index-run .last .1 .0) _ _ (many r))) (r .index-run .ensures), s .pre .1)
+    let s = r .before .before .before .before .before in
+    (subst (Indexed (s .args .run .now)) (sym (take-at (r .index-run .last .1 .0) _ _ (many r))) (r .index-run .ensures), s .pre .1, s .pre .2)
 
 returns : tie.Need-returns
 returns c = search needs

@@ -19,13 +19,13 @@ has-p-requires c κs = search needs
 -- the map's pairs, and what is asked, by whether the value is a key
 module _ (c : tie.After-has-p) where
   abbrev entries : List Entry
-  entries = map entryOf (recordsOf (c .before .before .args .run .now))
+  entries = map entryOf (recordsOf (c .before .before .before .args .run .now))
 
   abbrev hasChild : Bool
-  hasChild = any (λ w. any (isPair (c .before .before .args .v .0) w) entries) (c .before .before .args .list .now)
+  hasChild = any (λ w. any (isPair (c .before .before .before .args .v .0) w) entries) (c .before .before .before .args .list .now)
 
-  asked : childlessKey entries (c .before .before .args .list .now) (c .before .before .args .v .0) ≡ (c .has-p .result && not hasChild)
-  asked = let s = c .before .before in ap (λ (b : Bool). b && not hasChild) (any-key (s .args .v .0) (recordsOf (s .args .run .now)) ∙ sym (c .has-p .ensures))
+  asked : childlessKey entries (c .before .before .before .args .list .now) (c .before .before .before .args .v .0) ≡ (c .has-p .result && not hasChild)
+  asked = let s = c .before .before .before in ap (λ (b : Bool). b && not hasChild) (any-key (s .args .v .0) (recordsOf (s .args .run .now)) ∙ sym (c .has-p .ensures))
 
 returns : tie.Need-returns
 returns c = sym (asked (c .before) ∙ ap (λ (b : Bool). b && not (hasChild (c .before))) (not-true (c .before .has-p .result) (c .if1 .taken)))

@@ -58,7 +58,7 @@ span-of-requires c κs = search needs
 returns : tie.Need-returns
 returns c =
     let r = c .before .span-of in
-    sym (asked (c .before .before .before .before) (r .result .low) (r .result .high) (r .ensures) false (ltb-no (r .result .low) (r .result .high) (c .if1 .taken)))
+    sym (asked (c .before .before .before .before .before) (r .result .low) (r .result .high) (r .ensures) false (ltb-no (r .result .low) (r .result .high) (c .if1 .taken)))
 
 mul-has-placed : tie.Need-mul-has-placed
 mul-has-placed c = search needs
@@ -74,14 +74,14 @@ part-has-placed-end c = search needs
 
 has-placed-requires : tie.Need-has-placed-requires
 has-placed-requires c κs =
-    let s = c .before .before .before .before .before in
+    let s = c .before .before .before .before .before .before in
     let r = c .before .before .span-of in
-    (inside s (r .result .low) (r .result .high) (r .ensures), s .pre .1)
+    (inside s (r .result .low) (r .result .high) (r .ensures), s .pre .1, s .pre .2)
 
 returns-2 : tie.Need-returns-2
 returns-2 c =
     let r = c .before .before .before .span-of in
-    ap not (c .has-placed .ensures) ∙ sym (asked (c .before .before .before .before .before .before) (r .result .low) (r .result .high) (r .ensures) true (ltb-yes (r .result .low) (r .result .high) (c .before .before .if1 .left)))
+    ap not (c .has-placed .ensures) ∙ sym (asked (c .before .before .before .before .before .before .before) (r .result .low) (r .result .high) (r .ensures) true (ltb-yes (r .result .low) (r .result .high) (c .before .before .if1 .left)))
 
 pub lacks-child-spec : {M : Type 1} → statement M
 lacks-child-spec =

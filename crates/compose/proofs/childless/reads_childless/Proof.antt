@@ -19,10 +19,10 @@ abbrev isChildless : List ℤ → List ℕ → ℤ → Bool
 isChildless list run = childlessKey (map entryOf (recordsOf run)) list
 
 abbrev Inv-loop : tie.InvT-loop
-Inv-loop parents list ascends run i₀ i = (i ≤ length parents) × (any (isChildless list run) (drop i parents) ≡ any (isChildless list run) parents)
+Inv-loop parents list ascends sieve run i₀ i = (i ≤ length parents) × (any (isChildless list run) (drop i parents) ≡ any (isChildless list run) parents)
 
 abbrev μ-loop : tie.MeasureT-loop
-μ-loop parents list ascends run i₀ i = length parents - i
+μ-loop parents list ascends sieve run i₀ i = length parents - i
 
 loop-holds : tie.Need-loop-holds Inv-loop μ-loop
 loop-holds c = (omega arith, refl)
@@ -35,12 +35,12 @@ is-childless-key-requires c κs = search needs
 
 -- a turn's test
 turn : (c : tie.After-is-childless-key Inv-loop μ-loop)
-    → isChildless (c .before .before .before .before .before .args .list .now) (c .before .before .before .before .before .args .run .now) (getD (c .before .before .before .before .before .args .parents .now) (c .before .before .before .loop .i) (pos 0)) ≡ c .is-childless-key .result
-turn c = let s = c .before .before .before .before .before in ap (isChildless (s .args .list .now) (s .args .run .now)) (sym (c .before .value-at .ensures)) ∙ sym (c .is-childless-key .ensures)
+    → isChildless (c .before .before .before .before .before .before .args .list .now) (c .before .before .before .before .before .before .args .run .now) (getD (c .before .before .before .before .before .before .args .parents .now) (c .before .before .before .loop .i) (pos 0)) ≡ c .is-childless-key .result
+turn c = let s = c .before .before .before .before .before .before in ap (isChildless (s .args .list .now) (s .args .run .now)) (sym (c .before .value-at .ensures)) ∙ sym (c .is-childless-key .ensures)
 
 returns : tie.Need-returns Inv-loop μ-loop
 returns c =
-    let s = c .before .before .before .before .before .before in
+    let s = c .before .before .before .before .before .before .before in
     let l = c .before .before .before .before .loop in
     sym (sym (l .inv .1) ∙ rw (drop-cons (s .args .parents .now) (l .i) (pos 0) (omega arith)) (rw (turn (c .before) ∙ c .if1 .taken)))
 
@@ -52,13 +52,13 @@ loop-less c = omega arith
 
 loop-again : tie.Need-loop-again Inv-loop μ-loop
 loop-again c =
-    let s = c .before .before .before .before .before .before in
+    let s = c .before .before .before .before .before .before .before in
     let l = c .before .before .before .before .loop in
     (omega arith, rw (add-one (l .i)) (sym (rw (drop-cons (s .args .parents .now) (l .i) (pos 0) (omega arith)) (rw (turn (c .before) ∙ c .if1 .left))) ∙ l .inv .1))
 
 returns-2 : tie.Need-returns-2 Inv-loop μ-loop
 returns-2 c =
-    let s = c .before .before .before in
+    let s = c .before .before .before .before in
     let l = c .before .loop in
     sym (sym (l .inv .1) ∙ rw (drop-of-length-le (s .args .parents .now) {i = l .i} (omega arith)))
 
