@@ -1,7 +1,7 @@
 -- Lists filled from the front, and filtered in place.
-use mathlib.Core.Bool.{Bool, _&&_, _||_, cond, false, false≢true, true}
+use mathlib.Core.Bool.{Bool, _&&_, cond, false, true}
 use mathlib.Core.List.{List, [], _++_, _∷_, append-assoc, append-nil, foldl, map}
-use mathlib.Core.Option.{Option, some}
+use mathlib.Core.Option.{some}
 use mathlib.Core.Path.{_∙_, _≡_, ap, ap₂, refl, subst, sym}
 use Prim.Native.Nat.{_+_, _-_, _<_, _≤_, suc, ℕ}
 use native.Mathlib.Numerals.{add-one}
@@ -9,11 +9,9 @@ use native.Mathlib.Omega.{arith}
 use lib.Dec.{eqb}
 use lib.IntN.{natAbs, pos, ℤ}
 use lib.ListN.{drop, drop-of-length-le, getD, length, length-append, length-set, set, take, take-append-drop}
-use lib.Seq.{append-snoc, drop-cons, drop-drop, drop-length, drop-set-lt, getD-drop, length-take-le, take-all, take-at, take-suc, take-suc-set}
+use lib.Seq.{append-snoc, drop-cons, drop-drop, drop-length, drop-set-lt, getD-drop, length-take-le, take-at, take-suc-set}
 use Rattle.lists.specs.Integers.{elemZ}
-use Rattle.lists.specs.Lists.{any, consIf, filter, orElse, over}
-use Rattle.lists.proofs.All.{none-any}
-use Rattle.lists.proofs.Lists.{filter-none}
+use Rattle.lists.specs.Lists.{filter, orElse, over}
 use Rattle.spec.specs.Code.{asRecord, psOf}
 use Rattle.spec.specs.Kind.{ConstraintKind, Kind, bitmask, constraint, cross, enableMask, enableSet, eq, even, field, ge, gt, kindOf, le, lt, member, neq, oneof, projector, range, unknown}
 use Rattle.spec.specs.Record.{Record, constraintBy, constraintIn, constraintOf, group, recordAt, recordsOf}
@@ -23,9 +21,12 @@ use Rattle.registry.specs.Code.{groupIn, passes, testBy, testIn}
 use Rattle.compose.specs.Maps.{narrowBy, narrowIf}
 use Rattle.compose.specs.Code.{keptBy, narrowsKind, narrowsTest}
 
--- The test of head h with the members given.
+-- The test of a head's code, p and q with the members given, and of the head.
+abbrev pub testWith : ℕ → ℤ → ℤ → List ℕ → ℤ → Bool
+testWith code p q run = passes (testIn (kindOf code) p q (recordsOf run))
+
 abbrev pub testOf : code.Record → List ℕ → ℤ → Bool
-testOf h run = passes (testIn (kindOf (h .code)) (h .p) (h .q) (recordsOf run))
+testOf h run = testWith (h .code) (h .p) (h .q) run
 
 -- A value is among the items of a oneof, the members given.
 abbrev pub isItem : List ℕ → ℤ → Bool
@@ -37,15 +38,6 @@ module _ (l : List ℤ) (i : ℕ) where
   value-from h = rw (add-one i) (drop-cons l i (pos 0) h)
 
   module _ (p : ℤ → Bool) where
-    pub any-here : i < length l → p (getD l i (pos 0)) ≡ true → any p (drop i l) ≡ true
-    any-here h e = rw (value-from h) (rw e)
-
-    pub any-past : i < length l → p (getD l i (pos 0)) ≡ false → any p (drop i l) ≡ any p (drop (i + 1) l)
-    any-past h e = rw (value-from h) (rw e)
-
-    pub any-end : length l ≤ i → any p (drop i l) ≡ false
-    any-end h = rw (drop-of-length-le l {i = i} h)
-
     keep-here : i < length l → p (getD l i (pos 0)) ≡ true → filter p (drop i l) ≡ getD l i (pos 0) ∷ filter p (drop (i + 1) l)
     keep-here h e = rw (value-from h) (rw e)
 
@@ -109,30 +101,10 @@ module _ (p : ℤ → Bool) (l₀ l : List ℤ) (w i : ℕ) (m : Moved p l₀ l 
   moved-end h = over-end l₀ l w (m .rest) (filter p l₀) (moved-front h) (moved-count h)
 
 -- ---- a filter that would keep none is passed over
-module _ (p : ℤ → Bool) where
-  or-else-some : (d l : List ℤ) → any p l ≡ true → orElse (filter p l) d ≡ filter p l
-  or-else-some d [] e = absurd (false≢true e)
-  or-else-some d (x ∷ xs) e = go (p x) e (or-else-some d xs)
-    where
-      go : (b : Bool) → (b || any p xs) ≡ true → (any p xs ≡ true → orElse (filter p xs) d ≡ filter p xs) → orElse (consIf b x (filter p xs)) d ≡ consIf b x (filter p xs)
-      go true e ih = refl
-      go false e ih = ih e
-
-  or-else-none : (d l : List ℤ) → any p l ≡ false → orElse (filter p l) d ≡ d
-  or-else-none d l e = ap (λ (z : List ℤ). orElse z d) (filter-none p (none-any p l e))
-
 -- A list that stays as it was.
 pub over-same : (new l : List ℤ) → new ≡ l → (length l ≡ length new) × (l ≡ over new l)
 over-same new l e = (ap length (sym e), sym (ap (λ (z : List ℤ). over z l) e ∙ ap (λ (z : List ℤ). l ++ z) (drop-length l) ∙ append-nil l))
 
-module _ (t : Option Test) (l : List ℤ) where
-  pub kept-some : any (passes t) l ≡ true → keptBy t l ≡ filter (passes t) l
-  kept-some = or-else-some (passes t) l l
-
-  pub kept-none : any (passes t) l ≡ false → keptBy t l ≡ l
-  kept-none = or-else-none (passes t) l l
-
--- ---- the same by how many the filter kept
 none-kept : (new l : List ℤ) → length new ≡ 0 → (orElse new l ≡ l) × (over new l ≡ l)
 none-kept [] l e = (refl, refl)
 none-kept (x ∷ xs) l e = absurd (omega arith)
@@ -140,6 +112,18 @@ none-kept (x ∷ xs) l e = absurd (omega arith)
 some-kept : (new l : List ℤ) → ¬ (length new ≡ 0) → orElse new l ≡ new
 some-kept [] l n = absurd (n refl)
 some-kept (x ∷ xs) l n = refl
+
+-- left is l with the values of new moved to the front, kept of them
+module _ (new l left : List ℤ) (kept : ℕ) (count : kept ≡ length new) (front : left ≡ over new l) where
+  pub left-none : kept ≡ 0 → (length left ≡ length (orElse new l)) × (left ≡ over (orElse new l) l)
+  left-none z =
+      let none = none-kept new l (sym count ∙ z) in
+      subst (λ (m : List ℤ). (length m ≡ length (orElse new l)) × (m ≡ over (orElse new l) l)) (sym (front ∙ none .1)) (over-same (orElse new l) l (none .0))
+
+  pub left-some : ¬ (kept ≡ 0) → (kept ≡ length (orElse new l)) × (left ≡ over (orElse new l) l)
+  left-some n =
+      let e = sym (some-kept new l (λ z. n (count ∙ z))) in
+      (count ∙ ap length e, front ∙ ap (λ (m : List ℤ). over m l) e)
 
 -- ---- a oneof by its items: left is l with the values that are among them moved to the front, kept of them
 module _ (code : ℕ) (is-oneof : code ≡ 18) (p q : ℤ) (run : List ℕ) (l left : List ℤ) (kept : ℕ) (count : kept ≡ length (filter (isItem run) l)) (front : left ≡ over (filter (isItem run) l) l) where
@@ -151,14 +135,10 @@ module _ (code : ℕ) (is-oneof : code ≡ 18) (p q : ℤ) (run : List ℕ) (l l
   items-kept = rw is-oneof
 
   pub found-none : kept ≡ 0 → (length left ≡ length narrowed) × (left ≡ over narrowed l)
-  found-none z =
-      let none = none-kept (filter (isItem run) l) l (sym count ∙ z) in
-      subst (λ (m : List ℤ). (length m ≡ length narrowed) × (m ≡ over narrowed l)) (sym (front ∙ none .1)) (over-same narrowed l (items-kept ∙ none .0))
+  found-none z = subst (λ (m : List ℤ). (length left ≡ length m) × (left ≡ over m l)) (sym items-kept) (left-none (filter (isItem run) l) l left kept count front z)
 
   pub found-some : ¬ (kept ≡ 0) → (kept ≡ length narrowed) × (left ≡ over narrowed l)
-  found-some n =
-      let e = sym (items-kept ∙ some-kept (filter (isItem run) l) l (λ z. n (count ∙ z))) in
-      (count ∙ ap length e, front ∙ ap (λ (m : List ℤ). over m l) e)
+  found-some n = subst (λ (m : List ℤ). (kept ≡ length m) × (left ≡ over m l)) (sym items-kept) (left-some (filter (isItem run) l) l left kept count front n)
 
 -- ---- by kind
 narrow-if : (narrowing same : Bool) (t : Test) (l : List ℤ) → narrowIf (same && narrowing) t l ≡ cond (narrowing && same) (keptBy (some t) l) l

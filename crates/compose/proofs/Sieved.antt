@@ -1,51 +1,21 @@
 -- Sieves of lists.
-use mathlib.Core.Bool.{Bool, _&&_, _||_, cond, false, true, true≢false}
+use mathlib.Core.Bool.{Bool, _&&_, _||_, false, true, true≢false}
 use mathlib.Core.List.{List, [], _∷_}
-use mathlib.Core.Path.{_∙_, _≡_, ap, refl, subst, sym}
-use Prim.Native.Nat.{_%_, _+_, _-_, _<_, _≤_, suc, ℕ}
+use mathlib.Core.Path.{_∙_, _≡_, ap, refl, sym}
+use Prim.Native.Nat.{_+_, _<_, _≤_, suc, ℕ}
 use native.Mathlib.Omega.{arith}
-use lib.Dec.{T, eqb, ltb}
-use lib.IntN.{_-ℤ_, natAbs, negsuc, pos, ℤ}
+use lib.Dec.{eqb, ltb}
+use lib.IntN.{pos, ℤ}
 use lib.ListN.{getD, length, set}
 use lib.Seq.{getD-set-other, getD-set-same}
-use lib.Signed.{ltZ, nonNeg}
-use mir.Syntax.{w64}
-use mir.Val.{Fits, SFits}
 use Rattle.lists.specs.Integers.{elemZ, eqZ}
 use Rattle.lists.proofs.Integers.{eqZ-eq}
-use Rattle.lists.proofs.Tests.{and-split, eqb-yes, ltb-no, ltb-yes, yes-eq, yes-lt}
-use Rattle.registry.proofs.Scale.{natural-fits}
+use Rattle.lists.proofs.Tests.{and-split, eqb-yes, ltb-no, ltb-yes, yes-eq}
 use Rattle.compose.specs.Code.{Sieves, isOut, remainderOf}
 
 -- a sieve without bytes says nothing
 pub sieve-none : (list : List ℤ) → Sieves [] list
 sieve-none list w e = absurd (true≢false (sym e ∙ ap (λ (t : Bool). t && eqb 0 0) (ltb-no (remainderOf w) 0 (omega arith))))
-
--- ---- the remainder, as the code finds it
--- what -1 - v is for a v below 0
-pub record Below (v rest : ℤ) : Type 0 where
-  pub fits : SFits w64 rest
-  pub cast : T (nonNeg rest) × Fits w64 (natAbs rest)
-  pub is : natAbs rest % 16381 ≡ remainderOf v
-
-minus-one : (n : ℕ) → negsuc 0 -ℤ negsuc n ≡ pos n
-minus-one n = ap (λ (t : Bool). cond t (negsuc (1 - suc (suc n))) (pos (suc n - 1))) (ltb-no (suc n) 1 (omega arith)) ∙ ap pos (let e : suc n - 1 ≡ n = omega arith in e)
-
-pub below-of : (v : ℤ) → ltZ v (pos 0) ≡ true → SFits w64 v → Below v (negsuc 0 -ℤ v)
-below-of (pos n) e f = let h = yes-lt n 0 e in absurd (omega arith)
-below-of (negsuc n) e f =
-    let h = f .sfits in
-    let fits : SFits w64 (pos n) = record { sfits = omega arith } in
-    subst (λ (z : ℤ). Below (negsuc n) z) (sym (minus-one n)) record { fits = fits; cast = natural-fits (pos n) refl fits; is = refl }
-
--- a v not below 0
-pub record Natural (v : ℤ) : Type 0 where
-  pub cast : T (nonNeg v) × Fits w64 (natAbs v)
-  pub is : natAbs v % 16381 ≡ remainderOf v
-
-pub natural-of : (v : ℤ) → ltZ v (pos 0) ≡ false → SFits w64 v → Natural v
-natural-of (pos n) e f = record { cast = natural-fits (pos n) refl f; is = refl }
-natural-of (negsuc n) e f = absurd (true≢false e)
 
 -- ---- asking: r is the value's remainder
 module _ (sieve : List ℕ) (w : ℤ) (r : ℕ) (e : r ≡ remainderOf w) where

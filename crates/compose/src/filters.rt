@@ -53,33 +53,17 @@ pub(crate) fn lay_domain(h: Record, values: &[u8], list: &mut [i64])
     }
 }
 
-// Whether some value meets the test of head h.
-fn any_meets(list: &[i64], h: Record, run: &[u8]) -> bool
-    requires { ⌜ maskIn (kindOf (h .code)) (h .p) ≡ true ⌝ }
-    ensures { λ r. ⌜ r ≡ any (passes (testIn (kindOf (h .code)) (h .p) (h .q) (recordsOf (now (run .entry))))) (now (list .entry)) ⌝ }
-{
-    let mut i = 0;
-    while i < list.len() {
-        let x = list[i];
-        if meets(h.code, h.p, h.q, run, Value(x)) {
-            return true;
-        }
-        i += 1;
-    }
-    false
-}
-
-// Moves the values that meet the test to the front; how many they are.
-fn compact(list: &mut [i64], h: Record, run: &[u8]) -> usize
-    requires { ⌜ maskIn (kindOf (h .code)) (h .p) ≡ true ⌝ }
-    ensures count { λ r. ⌜ r ≡ length (filter (passes (testIn (kindOf (h .code)) (h .p) (h .q) (recordsOf (now (run .entry))))) (now (list .entry))) ⌝ }
-    ensures left { λ r. ⌜ now (list .exit) ≡ over (filter (passes (testIn (kindOf (h .code)) (h .p) (h .q) (recordsOf (now (run .entry))))) (now (list .entry))) (now (list .entry)) ⌝ }
+// Moves the values that meet the test of a head's code, p and q to the front; how many they are.
+fn compact(list: &mut [i64], code: u8, p: i64, q: i64, run: &[u8]) -> usize
+    requires { ⌜ maskIn (kindOf code) p ≡ true ⌝ }
+    ensures count { λ r. ⌜ r ≡ length (filter (passes (testIn (kindOf code) p q (recordsOf (now (run .entry))))) (now (list .entry))) ⌝ }
+    ensures left { λ r. ⌜ now (list .exit) ≡ over (filter (passes (testIn (kindOf code) p q (recordsOf (now (run .entry))))) (now (list .entry))) (now (list .entry)) ⌝ }
 {
     let mut w = 0;
     let mut i = 0;
     while i < list.len() {
         let x = list[i];
-        if meets(h.code, h.p, h.q, run, Value(x)) {
+        if meets(code, p, q, run, Value(x)) {
             list[w] = x;
             w += 1;
         }
@@ -88,17 +72,33 @@ fn compact(list: &mut [i64], h: Record, run: &[u8]) -> usize
     w
 }
 
+// The same of head h. For a range and a bitmask the compiler makes loops of their own, which do not ask for the kind again.
+fn compact_met(list: &mut [i64], h: Record, run: &[u8]) -> usize
+    requires { ⌜ maskIn (kindOf (h .code)) (h .p) ≡ true ⌝ }
+    ensures count { λ r. ⌜ r ≡ length (filter (passes (testIn (kindOf (h .code)) (h .p) (h .q) (recordsOf (now (run .entry))))) (now (list .entry))) ⌝ }
+    ensures left { λ r. ⌜ now (list .exit) ≡ over (filter (passes (testIn (kindOf (h .code)) (h .p) (h .q) (recordsOf (now (run .entry))))) (now (list .entry))) (now (list .entry)) ⌝ }
+{
+    let code = h.code;
+    if code == 10 {
+        return compact(list, 10, h.p, h.q, run);
+    }
+    if code == 21 {
+        return compact(list, 21, h.p, h.q, run);
+    }
+    compact(list, code, h.p, h.q, run)
+}
+
 // Keeps the values that meet the test, or all where none does; how many are kept.
 fn narrow(list: &mut [i64], h: Record, run: &[u8]) -> usize
     requires { ⌜ maskIn (kindOf (h .code)) (h .p) ≡ true ⌝ }
     ensures count { λ r. ⌜ r ≡ length (keptBy (testIn (kindOf (h .code)) (h .p) (h .q) (recordsOf (now (run .entry)))) (now (list .entry))) ⌝ }
     ensures left { λ r. ⌜ now (list .exit) ≡ over (keptBy (testIn (kindOf (h .code)) (h .p) (h .q) (recordsOf (now (run .entry)))) (now (list .entry))) (now (list .entry)) ⌝ }
 {
-    if any_meets(&list[..], h, run) {
-        compact(list, h, run)
-    } else {
-        list.len()
+    let met = compact_met(list, h, run);
+    if met == 0 {
+        return list.len();
     }
+    met
 }
 
 // Moves the values that are among the items to the front, by the index of the items; how many they are.

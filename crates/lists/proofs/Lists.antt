@@ -9,6 +9,7 @@ use lib.ListN.{List·getD-append, getD, length, replicate, set}
 use lib.Seq.{getD-append-add, set-append-left}
 use Rattle.lists.specs.Lists.{all, any, concatMap, consIf, countIf, filter, isEmpty, mapFrom, sucIf}
 use Rattle.lists.proofs.All.{All, []ᴬ, _∷ᴬ_}
+use Rattle.lists.proofs.Tests.{or-assoc}
 
 sucIf-append : (b : Bool) (m n : ℕ) → sucIf b (m + n) ≡ sucIf b m + n
 sucIf-append true m n = sym (suc-add m n)
@@ -34,10 +35,6 @@ module _ {A : Type 0} where
   pub any-append : (p : A → Bool) (xs ys : List A) → any p (xs ++ ys) ≡ (any p xs || any p ys)
   any-append p [] ys = refl
   any-append p (x ∷ xs) ys = ap (λ b. p x || b) (any-append p xs ys) ∙ or-assoc (p x) (any p xs) (any p ys)
-    where
-      or-assoc : (a b c : Bool) → (a || (b || c)) ≡ (a || b || c)
-      or-assoc true b c = refl
-      or-assoc false b c = refl
 
   pub all-ext : {p q : A → Bool} {xs : List A} → All (λ x. p x ≡ q x) xs → all p xs ≡ all q xs
   all-ext []ᴬ = refl

@@ -69,6 +69,10 @@ pub or-false : (a : Bool) → (a || false) ≡ a
 or-false true = refl
 or-false false = refl
 
+pub or-assoc : (a b c : Bool) → (a || (b || c)) ≡ (a || b || c)
+or-assoc true b c = refl
+or-assoc false b c = refl
+
 -- two tests that imply each other are equal
 pub bool-ext : (a b : Bool) → (a ≡ true → b ≡ true) → (b ≡ true → a ≡ true) → a ≡ b
 bool-ext true true f g = refl

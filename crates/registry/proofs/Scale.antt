@@ -2,7 +2,7 @@
 use mathlib.Core.Bool.{Bool, cond, false, false≢true, true, true≢false}
 use mathlib.Core.List.{List}
 use mathlib.Core.Option.{Option, none}
-use mathlib.Core.Path.{_∙_, _≡_, ap, refl, sym}
+use mathlib.Core.Path.{_∙_, _≡_, ap, refl, subst, sym}
 use Prim.Native.Nat.{_+_, _-_, _<_, _^_, _≤_, suc, zero, ℕ}
 use native.Mathlib.Numerals.{add-one}
 use native.Mathlib.Omega.{arith}
@@ -15,7 +15,7 @@ use mir.Syntax.{w64}
 use mir.Val.{Fits, SFits}
 use Rattle.lists.specs.Integers.{sumZ}
 use Rattle.lists.proofs.Signed.{apart-bound}
-use Rattle.lists.proofs.Tests.{ltb-yes, yes-lt}
+use Rattle.lists.proofs.Tests.{ltb-no, ltb-yes, yes-lt}
 use Rattle.spec.specs.Refusal.{negative, onScale}
 use Rattle.spec.specs.Spec.{AxisSpec}
 use Rattle.spec.proofs.Multiples.{scale-bound}
@@ -29,6 +29,34 @@ pub natural-fits : (v : ℤ) → negative v ≡ false → SFits w64 v → T (non
 natural-fits (pos n) e f = (tt, omega arith)
 natural-fits (negsuc n) e f = absurd (true≢false e)
 
+-- ---- a number taken apart at 0
+-- what -1 - v is for a v below 0
+pub record Below (v rest : ℤ) : Type 0 where
+  pub fits : SFits w64 rest
+  pub cast : T (nonNeg rest) × Fits w64 (natAbs rest)
+  pub small : natAbs rest + 1 ≤ 9223372036854775808
+  pub whole : v ≡ negsuc (natAbs rest)
+
+minus-one : (n : ℕ) → negsuc 0 -ℤ negsuc n ≡ pos n
+minus-one n = ap (λ (t : Bool). cond t (negsuc (1 - suc (suc n))) (pos (suc n - 1))) (ltb-no (suc n) 1 (omega arith)) ∙ ap pos (let e : suc n - 1 ≡ n = omega arith in e)
+
+pub below-of : (v : ℤ) → ltZ v (pos 0) ≡ true → SFits w64 v → Below v (negsuc 0 -ℤ v)
+below-of (pos n) e f = let h = yes-lt n 0 e in absurd (omega arith)
+below-of (negsuc n) e f =
+    let h = f .sfits in
+    let fits : SFits w64 (pos n) = record { sfits = omega arith } in
+    subst (λ (z : ℤ). Below (negsuc n) z) (sym (minus-one n)) record { fits = fits; cast = natural-fits (pos n) refl fits; small = omega arith; whole = refl }
+
+-- a v not below 0
+pub record Natural (v : ℤ) : Type 0 where
+  pub cast : T (nonNeg v) × Fits w64 (natAbs v)
+  pub whole : v ≡ pos (natAbs v)
+
+pub natural-of : (v : ℤ) → ltZ v (pos 0) ≡ false → SFits w64 v → Natural v
+natural-of (pos n) e f = record { cast = natural-fits (pos n) refl f; whole = refl }
+natural-of (negsuc n) e f = absurd (true≢false e)
+
+-- ---- differences
 pub apart-fits : (v w : ℤ) → onScale v ≡ true → onScale w ≡ true → SFits w64 (v -ℤ w)
 apart-fits v w d e = small-fits (v -ℤ w) (omega (arith, apart-bound v w, scale-bound v d, scale-bound w e))
 

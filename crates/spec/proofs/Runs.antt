@@ -1,14 +1,16 @@
 -- Runs of records: the part of a file that they are, and the turns of the loops over them.
-use mathlib.Core.Bool.{Bool, false, true}
+use mathlib.Core.Bool.{Bool, _||_, false, true}
 use mathlib.Core.List.{List, [], _∷_, map}
 use mathlib.Core.Path.{_∙_, _≡_, ap, ap₂, refl, sym}
 use Prim.Native.Nat.{_*_, _+_, _-_, _/_, _<_, _≤_, suc, zero, ℕ}
 use native.Mathlib.Numerals.{add-one}
 use native.Mathlib.Omega.{arith}
 use lib.IntN.{ℤ}
-use lib.ListN.{drop, drop-of-length-le, length, length-append, length-drop, length-take, take}
+use lib.ListN.{drop, drop-of-length-le, length, length-append, length-drop, length-take, take, take-append-drop}
 use lib.Seq.{drop-drop, take-at, take-nil, take-take}
 use Rattle.lists.specs.Integers.{elemZ, eqZ}
+use Rattle.lists.proofs.Lists.{any-append, map-append}
+use Rattle.lists.proofs.Tests.{or-assoc, or-false}
 use Rattle.spec.specs.Code.{psOf}
 use Rattle.spec.specs.Kind.{isMember}
 use Rattle.spec.specs.Record.{Record, chunks, groups, memberRun, partsOf, recordAt, recordOf, recordsOf}
@@ -72,6 +74,12 @@ module _ (file : List ℕ) where
   run-end i h = let e : length (recordsOf file) ≤ i = omega (arith, length-records file) in rw (drop-of-length-le (recordsOf file) e)
 
 -- ---- the search of a run for a value
+or-four : (a b c d : Bool) → (a || (b || (c || (d || false)))) ≡ (a || b || c || d)
+or-four true b c d = refl
+or-four false true c d = refl
+or-four false false true d = refl
+or-four false false false d = or-false d
+
 module _ (v : ℤ) (run : List ℕ) where
   -- The value is the p of a record from i on.
   abbrev pub hasFrom : ℕ → Bool
@@ -85,3 +93,39 @@ module _ (v : ℤ) (run : List ℕ) where
 
   pub has-end : (i : ℕ) → length run / 32 ≤ i → hasFrom i ≡ false
   has-end i h = let e : length (recordsOf run) ≤ i = omega (arith, length-records run) in rw (drop-of-length-le (recordsOf run) e)
+
+  -- The value is the p of one of the four records from i on.
+  abbrev pub hasInFour : ℕ → Bool
+  hasInFour i = elemZ v (psOf (take 4 (drop i (recordsOf run))))
+
+  pub four-at : (i : ℕ) → i + 4 ≤ length run / 32
+      → hasInFour i ≡ (eqZ v (recordAt run i .p) || eqZ v (recordAt run (i + 1) .p) || eqZ v (recordAt run (i + 2) .p) || eqZ v (recordAt run (i + 3) .p))
+  four-at i h =
+      ap (λ (l : List Record). elemZ v (psOf (take 4 l))) (at i (i + 1) (omega arith) (omega arith))
+      ∙ ap (λ (l : List Record). elemZ v (psOf (recordAt run i ∷ take 3 l))) (at (i + 1) (i + 2) (omega arith) (omega arith))
+      ∙ ap (λ (l : List Record). elemZ v (psOf (recordAt run i ∷ recordAt run (i + 1) ∷ take 2 l))) (at (i + 2) (i + 3) (omega arith) (omega arith))
+      ∙ ap (λ (l : List Record). elemZ v (psOf (recordAt run i ∷ recordAt run (i + 1) ∷ recordAt run (i + 2) ∷ take 1 l))) (at (i + 3) (i + 4) (omega arith) (omega arith))
+      ∙ or-four (eqZ v (recordAt run i .p)) (eqZ v (recordAt run (i + 1) .p)) (eqZ v (recordAt run (i + 2) .p)) (eqZ v (recordAt run (i + 3) .p))
+    where
+      at : (j k : ℕ) → j < length run / 32 → suc j ≡ k → drop j (recordsOf run) ≡ recordAt run j ∷ drop k (recordsOf run)
+      at j k l e = records-from run j l ∙ ap (λ (n : ℕ). recordAt run j ∷ drop n (recordsOf run)) e
+
+  has-four : (i : ℕ) → hasFrom i ≡ (hasInFour i || hasFrom (i + 4))
+  has-four i =
+      let left = drop i (recordsOf run) in
+      ap (λ (l : List Record). elemZ v (psOf l)) (sym (take-append-drop 4 left))
+      ∙ ap (elemZ v) (map-append (λ (m : Record). m .p) (take 4 left) (drop 4 left))
+      ∙ any-append (eqZ v) (psOf (take 4 left)) (psOf (drop 4 left))
+      ∙ ap (λ (l : List Record). hasInFour i || elemZ v (psOf l)) (drop-drop 4 i (recordsOf run))
+
+  -- The turns by eight.
+  has-eight : (i : ℕ) → hasFrom i ≡ (hasInFour i || hasInFour (i + 4) || hasFrom (i + 8))
+  has-eight i =
+      let e : i + 4 + 4 ≡ i + 8 = omega arith in
+      has-four i ∙ ap (λ (b : Bool). hasInFour i || b) (has-four (i + 4)) ∙ or-assoc (hasInFour i) (hasInFour (i + 4)) (hasFrom (i + 4 + 4)) ∙ ap (λ (j : ℕ). hasInFour i || hasInFour (i + 4) || hasFrom j) e
+
+  pub eight-here : (i : ℕ) → (hasInFour i || hasInFour (i + 4)) ≡ true → hasFrom i ≡ true
+  eight-here i t = has-eight i ∙ ap (λ (b : Bool). b || hasFrom (i + 8)) t
+
+  pub eight-past : (i : ℕ) → (hasInFour i || hasInFour (i + 4)) ≡ false → hasFrom i ≡ hasFrom (i + 8)
+  eight-past i t = has-eight i ∙ ap (λ (b : Bool). b || hasFrom (i + 8)) t

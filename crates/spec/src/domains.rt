@@ -69,12 +69,24 @@ fn on_step(v: Value, step: i64) -> bool
     x % step == 0
 }
 
-// The value is the p of one of the records.
-pub fn has_p(run: &[u8], v: Value) -> bool
-    ensures { λ r. ⌜ r ≡ elemZ (v .0) (psOf (recordsOf (now (run .entry)))) ⌝ }
+// The value is the p of one of the four records from i on.
+fn has_p_of_four(run: &[u8], i: usize, v: Value) -> bool
+    requires { ⌜ i + 4 ≤ length (now run) / 32 ⌝ }
+    ensures { λ r. ⌜ r ≡ elemZ (v .0) (psOf (take 4 (drop i (recordsOf (now (run .entry)))))) ⌝ }
+{
+    (p_at(run, i) == v.0)
+        | (p_at(run, i + 1) == v.0)
+        | (p_at(run, i + 2) == v.0)
+        | (p_at(run, i + 3) == v.0)
+}
+
+// The value is the p of one of the records from `from` on.
+fn has_p_from(run: &[u8], from: usize, v: Value) -> bool
+    requires { ⌜ from ≤ length (now run) / 32 ⌝ }
+    ensures { λ r. ⌜ r ≡ elemZ (v .0) (psOf (drop from (recordsOf (now (run .entry))))) ⌝ }
 {
     let n = run.len() / 32;
-    let mut i = 0;
+    let mut i = from;
     while i < n {
         let x = p_at(run, i);
         if x == v.0 {
@@ -83,6 +95,21 @@ pub fn has_p(run: &[u8], v: Value) -> bool
         i += 1;
     }
     false
+}
+
+// The value is the p of one of the records: by eight, and then those that are left.
+pub fn has_p(run: &[u8], v: Value) -> bool
+    ensures { λ r. ⌜ r ≡ elemZ (v .0) (psOf (recordsOf (now (run .entry)))) ⌝ }
+{
+    let n = run.len() / 32;
+    let mut i = 0;
+    while i + 8 <= n {
+        if has_p_of_four(run, i, v) | has_p_of_four(run, i + 4, v) {
+            return true;
+        }
+        i += 8;
+    }
+    has_p_from(run, i, v)
 }
 
 // The field check of field h, whose values are the records given.

@@ -1,5 +1,5 @@
 -- `compose::sieve::remainder_of` meets its contract: below 0 it divides -1 - w, else w.
-use mathlib.Core.Path.{_≡_}
+use mathlib.Core.Path.{_≡_, ap, sym}
 use native.Mathlib.Omega.{arith}
 use borrow.Author.Needs.{sfits-of}
 use lib.IntN.{_-ℤ_, negsuc}
@@ -7,7 +7,8 @@ use mir.Syntax.{w64}
 use mir.Val.{SFits}
 use mir.ValLaws.{toZ-ofZ}
 use Rattle.spec.proofs.Multiples.{held}
-use Rattle.compose.proofs.Sieved.{Below, Natural, below-of, natural-of}
+use Rattle.registry.proofs.Scale.{Below, Natural, below-of, natural-of}
+use Rattle.compose.specs.Code.{remainderOf}
 use Rattle.compose.proofs.sieve.remainder_of.Statement.{statement}
 use Rattle.compose.proofs.sieve.remainder_of.Tie as tie
 
@@ -31,7 +32,7 @@ cast-result : tie.Need-cast-result
 cast-result c = rw (rest-read c) (below c .cast)
 
 returns : tie.Need-returns
-returns c = rw (rest-read c) (below c .is, omega arith)
+returns c = rw (rest-read c) (ap remainderOf (sym (below c .whole)), omega arith)
 
 natural : (c : tie.Else1) → Natural (c .before .before .args .w .0)
 natural c = let s = c .before in natural-of (s .before .args .w .0) (rw (w-read s) at (c .if1 .left)) (w-fits s)
@@ -40,7 +41,7 @@ cast-result-2 : tie.Need-cast-result-2
 cast-result-2 c = rw (w-read (c .before)) (natural c .cast)
 
 returns-2 : tie.Need-returns-2
-returns-2 c = rw (w-read (c .before)) (natural c .is, omega arith)
+returns-2 c = rw (w-read (c .before)) (ap remainderOf (sym (natural c .whole)), omega arith)
 
 pub remainder-of-spec : {M : Type 1} → statement M
 remainder-of-spec = tie.close (tie.spec sub-result cast-result returns cast-result-2 returns-2)

@@ -13,7 +13,8 @@ use Rattle.spec.proofs.Multiples.{held}
 use Rattle.listing.specs.Text.{decimal}
 use Rattle.listing.proofs.Buffer.{put-after}
 use Rattle.listing.proofs.Decimal.{decimal-short}
-use Rattle.listing.proofs.Sign.{Below, Natural, below-of, natural-of}
+use Rattle.registry.proofs.Scale.{Below, Natural, below-of, natural-of}
+use Rattle.listing.proofs.Sign.{below-text, natural-text}
 use Rattle.listing.proofs.text.put_signed.Statement.{statement}
 use Rattle.listing.proofs.text.put_signed.Tie as tie
 
@@ -59,7 +60,7 @@ returns c =
     let args = t .before .before .args in
     let byte = c .before .before .before .before .before .before .put-byte in
     let number = rw (rest-read t) at (c .before .before .put-number .ensures) in
-    let text = below t .text in
+    let text = below-text (args .number) (negsuc 0 -ℤ args .number) (below t) in
     let long = ap (λ (l : List ℕ). length l) text in (
       put-after (args .out .now) (byte .last .0) (c .before .before .put-number .last .0) (args .at) (byte .result) (45 ∷ []) (decimal (digits t)) (byte .ensures .0) (byte .ensures .1) (number .0) ∙ ap (λ (l : List ℕ). sets (args .out .now) (args .at) l) (sym text),
       (omega (arith, byte .ensures .1, number .1 .0, long), omega (arith, byte .ensures .1, number .1 .0, short t)),
@@ -85,7 +86,7 @@ returns-2 c =
     let t = c .before .before .before .before in
     let args = t .before .before .args in
     let number = rw (number-read (t .before .before)) at (c .before .before .put-number2 .ensures) in
-    let text = natural t .text in
+    let text = natural-text (args .number) (natural t) in
     let long = ap (λ (l : List ℕ). length l) text in (
       number .0 ∙ ap (λ (l : List ℕ). sets (args .out .now) (args .at) l) (sym text),
       (omega (arith, number .1 .0, long), number .1 .1),
