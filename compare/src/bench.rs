@@ -318,11 +318,12 @@ fn line(t: &Timed, engine: &str) -> String {
 fn main() {
     let words: Vec<String> = std::env::args().skip(1).collect();
     match &words[..] {
-        [side, engine, name] => one(side, engine, name),
         [option, names] if option == "--only" => table(Some(names)),
-        [option, seconds] if option == "--search" => {
-            search::search(seconds.parse().expect("seconds"), 1)
+        [option, seconds, seed @ ..] if option == "--search" => {
+            let seed = seed.first().map_or(1, |s| s.parse().expect("a seed"));
+            search::search(seconds.parse().expect("seconds"), seed)
         }
+        [side, engine, name] => one(side, engine, name),
         _ => table(None),
     }
 }

@@ -2,12 +2,15 @@
 
 use crate::{count_once, needs, original_once, specification, ENGINES};
 use common::random::Random;
+use common::reading::Engine;
 use common::record::*;
 use ev::verify::registry::{ConstraintRegistry, ProjectorRegistry};
 use std::time::Instant;
 
-/// No file with more rows than this is tried.
+/// How many rows a file may have without maps, where it does not say otherwise.
 const ROWS: usize = 1_000_000;
+/// No engine is tried on more verdicts than this: they are what such a call spends its time on, and the table times them.
+const VERDICTS: usize = 100_000;
 /// What a file may have left for members.
 const RECORDS: usize = 2_000;
 
@@ -33,7 +36,7 @@ impl Maker {
         (n as f64).powf(share).round() as usize
     }
 
-    /// A range, or so many listed values that rise, fall or lie in no order.
+    /// A range, or so many listed values that rise, fall or lie in no order; multiples of one number.
     fn field(&mut self, length: usize) {
         let f = self.values.len();
         let form = self.random.below(4);
@@ -42,6 +45,8 @@ impl Maker {
             self.put(FIELD, f, 1, 0, length as i64 - 1);
             self.what += &format!("range {length}; ");
         } else {
+            let step = [1, 1, 1_000, 65_536][self.random.below(4)];
+            values.iter_mut().for_each(|v| *v *= step);
             match form {
                 1 => {}
                 2 => values.reverse(),
@@ -139,14 +144,8 @@ impl Maker {
     }
 }
 
-/// A file, and what it has.
-fn file(seed: u64) -> (Vec<u8>, String) {
-    let mut m = Maker {
-        random: Random::new(seed),
-        records: Vec::new(),
-        values: Vec::new(),
-        what: String::new(),
-    };
+/// A file of any constraints.
+fn any(m: &mut Maker) {
     let fields = 1 + m.random.below(4);
     let mut rows = m.up_to(ROWS);
     for _ in 0..fields {
@@ -158,8 +157,158 @@ fn file(seed: u64) -> (Vec<u8>, String) {
     for _ in 0..constraints {
         m.constraint();
     }
+}
+
+/// A file of one map, of whose child values some, or all but one of each key, are not in the child's list.
+fn one_map(m: &mut Maker) {
+    let rows = m.up_to(ROWS / 10);
+    let parents = m.up_to(rows.min(1_000));
+    m.field(parents);
+    let children = (rows / parents).min(1_000);
+    m.field(children);
+    let keys = m.up_to(parents.min(m.room()));
+    let each = m.up_to(m.room() / keys);
+    let foreign = [0, 50, 90, 100][m.random.below(4)];
+    let width = [2, 20, 100_000][m.random.below(3)];
+    let mut members = Vec::new();
+    for key in m.values[0].clone().into_iter().take(keys) {
+        let one = m.value(1);
+        members.push((key, one));
+        for _ in 1..each {
+            let mut child = m.value(1);
+            if m.random.chance(foreign) {
+                child += (1 + m.random.below(width)) as i64 * children as i64;
+            }
+            members.push((key, child));
+        }
+    }
+    match m.random.below(4) {
+        0 => m.random.shuffle(&mut members),
+        1 => members.sort(),
+        2 => members.reverse(),
+        _ => {}
+    }
+    m.put(CROSS, 0, 1, 0, 0);
+    for (p, q) in members {
+        m.put(PAIR, 0, 0, p, q);
+    }
+    m.what += &format!("map, {keys} keys of {each}, {foreign} % not in the list; ");
+}
+
+/// A file of two fields and of constraints that force values, in the list or not.
+fn forced(m: &mut Maker) {
+    let rows = m.up_to(ROWS / 10);
+    let length = m.up_to(rows.min(1_500));
+    m.field(length);
+    m.field((rows / length).min(400));
+    let many = 1 + m.up_to(60);
+    for _ in 0..many {
+        let (a, b) = (m.random.below(2), m.random.below(2));
+        let (v, mut w) = (m.value(a), m.value(b));
+        if m.random.chance(30) {
+            w += 1;
+        }
+        if m.random.chance(50) {
+            m.put(ENABLE_MASK, a, 0, v, 0);
+            m.put(DISABLE, b, 0, 0, 0);
+        } else {
+            m.put(ENABLE_SET, a, 0, v, 0);
+            m.put(ASSIGN, b, 0, w, 0);
+        }
+    }
+    m.what += &format!("{many} enables; ");
+}
+
+/// A file of a field, most often a long range, that a few filters narrow.
+fn filters(m: &mut Maker) {
+    let length = m.up_to(ROWS);
+    m.field(length);
+    let many = 1 + m.random.below(4);
+    for _ in 0..many {
+        let (v, width) = (m.value(0), m.up_to(length) as i64);
+        match m.random.below(4) {
+            0 => m.put(BITMASK, 0, 0, v, 0),
+            1 => m.put(LT, 0, 0, v, 0),
+            _ => m.put(RANGE, 0, 0, v, v + width),
+        }
+    }
+    m.what += &format!("{many} filters; ");
+}
+
+/// A file of few rows and many constraints.
+fn few(m: &mut Maker) {
+    let fields = 1 + m.random.below(8);
+    for _ in 0..fields {
+        let length = 1 + m.random.below(2);
+        m.field(length);
+    }
+    let most = m.up_to(200);
+    for _ in 0..most {
+        m.constraint();
+    }
+}
+
+/// A file of one or two fields under several oneofs.
+fn oneofs(m: &mut Maker) {
+    let rows = m.up_to(ROWS);
+    let length = m.up_to(rows);
+    m.field(length);
+    m.field((rows / length).min(1_000));
+    let many = 1 + m.random.below(4);
+    for _ in 0..many {
+        let f = m.random.below(2);
+        m.oneof(f);
+    }
+}
+
+/// A file of three fields and two maps; one of the fields may be a long range.
+fn two_maps(m: &mut Maker) {
+    let mut rows = m.up_to(ROWS / 10);
+    let long = m.random.below(4);
+    for f in 0..3 {
+        let length = m.up_to(rows.min(600));
+        if f == long {
+            m.field(length * 500);
+        } else {
+            rows /= length;
+            m.field(length);
+        }
+    }
+    let maps = [
+        [(0, 1), (1, 2)],
+        [(0, 2), (1, 2)],
+        [(2, 1), (1, 0)],
+        [(0, 1), (0, 2)],
+    ];
+    for (parent, child) in maps[m.random.below(4)] {
+        m.map(parent, child);
+    }
+}
+
+type Make = fn(&mut Maker);
+
+const KINDS: [(&str, Make); 7] = [
+    ("any", any),
+    ("one map", one_map),
+    ("two maps", two_maps),
+    ("forced", forced),
+    ("filters", filters),
+    ("few rows", few),
+    ("oneofs", oneofs),
+];
+
+/// A file, what it has, and how many rows there are without constraints.
+fn file(make: Make, seed: u64) -> (Vec<u8>, String, usize) {
+    let mut m = Maker {
+        random: Random::new(seed),
+        records: Vec::new(),
+        values: Vec::new(),
+        what: String::new(),
+    };
+    make(&mut m);
     m.put(SUM, 0, 0, 0, 0);
-    (write(&m.records), m.what)
+    let rows = m.values.iter().map(Vec::len).product();
+    (write(&m.records), m.what, rows)
 }
 
 /// The shortest of several calls, in nanoseconds.
@@ -178,19 +327,27 @@ pub fn search(seconds: f64, seed: u64) {
     let constraints = ConstraintRegistry::default();
     let projectors = ProjectorRegistry::default();
     let start = Instant::now();
-    let (mut tried, mut slower, mut slower_read) = (0, 0, 0);
+    let mut of = [[0; 3]; KINDS.len()];
+    let mut lowest = [f64::INFINITY; KINDS.len()];
     let mut next = seed << 32;
     while start.elapsed().as_secs_f64() < seconds {
         next += 1;
-        let (bytes, what) = file(next);
+        let kind = next as usize % KINDS.len();
+        let (bytes, what, rows) = file(KINDS[kind].1, next);
         let Some(spec) = specification(&bytes) else {
             continue;
         };
         let mut scratch = vec![0i64; needs(&bytes)[3]];
         for (engine, word) in ENGINES {
+            if rows > VERDICTS && engine == Engine::Exhaustive {
+                continue;
+            }
             let Some(counts) = count_once(engine, &bytes, &mut scratch) else {
                 continue;
             };
+            if counts[1] > VERDICTS {
+                continue;
+            }
             let mut compared = |times: usize| {
                 let ours = shortest(times, || {
                     count_once(engine, &bytes, &mut scratch);
@@ -205,18 +362,21 @@ pub fn search(seconds: f64, seed: u64) {
                 });
                 (theirs / ours, reading / ours, ours)
             };
-            tried += 1;
+            let [tried, slower, slower_read] = &mut of[kind];
+            *tried += 1;
             if compared(1).0 >= 2.0 {
                 continue;
             }
             let (plain, read, ours) = compared(9);
+            lowest[kind] = lowest[kind].min(read);
             if plain < 1.0 {
-                slower += 1;
+                *slower += 1;
             }
             if read < 1.0 {
-                slower_read += 1;
+                *slower_read += 1;
                 println!(
-                    "{read:.2} ({plain:.2} without its reading), {:.0} us, {word}, {} records, {} verdicts: {what}",
+                    "{}: {read:.2} ({plain:.2} without its reading), {:.0} us, {word}, {} records, {} verdicts: {what}",
+                    KINDS[kind].0,
                     ours / 1e3,
                     bytes.len() / 32,
                     counts[1]
@@ -224,5 +384,9 @@ pub fn search(seconds: f64, seed: u64) {
             }
         }
     }
-    println!("{tried} files and engines: on {slower} the original is faster, on {slower_read} with its reading counted too");
+    println!("| files | tried | the original faster | its reading counted too | lowest |");
+    println!("|---|---|---|---|---|");
+    for (((kind, _), [tried, slower, slower_read]), low) in KINDS.iter().zip(of).zip(lowest) {
+        println!("| {kind} | {tried} | {slower} | {slower_read} | {low:.2} |");
+    }
 }
