@@ -58,6 +58,14 @@ above v w h k =
     let e : ¬ (up n v ≡ up n w) = λ i. true≢false (sym (eqb-yes (up n v) (up n w) i) ∙ sym (up-eq n v w x y) ∙ k) in
     up-lt n w v y x ∙ ltb-yes (up n w) (up n v) (omega arith)
 
+-- numbers that a test tells apart
+pub differ : (p : ℤ → Bool) (v w : ℤ) → p w ≡ true → p v ≡ false → eqZ v w ≡ false
+differ p v w h k = go (eqZ v w) refl
+  where
+    go : (b : Bool) → eqZ v w ≡ b → b ≡ false
+    go true e = sym h ∙ ap p (sym (eqZ-eq v w e)) ∙ k
+    go false e = refl
+
 -- ---- testing a list
 module _ (l : List ℤ) where
   -- what `isAscending` asks of a number

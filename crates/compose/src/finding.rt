@@ -222,7 +222,17 @@ pub(crate) fn has_value(list: &[i64], ascends: bool, sieve: &[u8], w: Value) -> 
 pub(crate) fn is_worth(members: usize, values: usize) -> bool
     ensures { λ r. ⌜ (r ≡ true → members ≤ 2048) ⌝ }
 {
-    (16 < members) & (members <= 2048) & (64 < values)
+    (members <= 2048) & (64 < values) & ((16 < members) | (512 < values))
+}
+
+// There are no more members than values of the parent's list, which ascends: going by the keys is quicker.
+pub(crate) fn goes_by_keys(parents: &[i64], members: usize) -> bool
+    ensures { λ r. ⌜ (r ≡ true → isAscending (now (parents .entry)) ≡ true) ⌝ }
+{
+    if parents.len() < members {
+        return false;
+    }
+    is_ascending(parents)
 }
 
 // The first index whose value is the p of one of the records; the list's length if there is none.

@@ -16,23 +16,26 @@ pub const RECORDS: usize = 2048;
 // The same behind the numbers of 32 fields.
 pub const WIDE: usize = 2080;
 
-// A oneof or a cross of more than 16 members; shorter ones are read through.
-fn is_long(file: &[u8], head: usize, end: usize) -> bool
+// Members that are read through, where rows are asked about them.
+pub const LONG: usize = 16;
+
+// A oneof or a cross of more members than the number given.
+fn is_long(file: &[u8], head: usize, end: usize, least: usize) -> bool
     requires { ⌜ (head < end) × (end ≤ length (now file) / 32) ⌝ }
-    ensures { λ r. ⌜ r ≡ isLongRun (now (file .entry)) head end ⌝ }
+    ensures { λ r. ⌜ r ≡ isLongRun least (now (file .entry)) head end ⌝ }
 {
     let code = code_at(file, head);
-    ((code == 18) | (code == 19)) & (16 < end - head - 1)
+    ((code == 18) | (code == 19)) & (least < end - head - 1)
 }
 
-// One of the heads is such.
+// One of the heads has more than 16; shorter ones are read through.
 pub fn has_long(file: &[u8], heads: &[usize]) -> bool
     requires { ⌜ HeadsIn (now file) (now heads) 32 ⌝ }
     ensures { λ r. ⌜ r ≡ any (isLongAt (now (file .entry)) (now (heads .entry))) (upto (length (now (heads .entry)) - 1)) ⌝ }
 {
     let mut k = 1;
     while k < heads.len() {
-        if is_long(file, heads[k - 1], heads[k]) {
+        if is_long(file, heads[k - 1], heads[k], LONG) {
             return true;
         }
         k += 1;
@@ -55,8 +58,14 @@ fn index_at(file: &[u8], head: usize, end: usize, index: &mut [usize], spare: &m
     index[head] = 4096 + end;
 }
 
-// Indexes the long ones of the heads, in an index of zeros.
-pub fn index_heads(file: &[u8], heads: &[usize], index: &mut [usize], spare: &mut [usize])
+// Indexes the heads that have more members than the number given, in an index of zeros.
+pub fn index_heads(
+    file: &[u8],
+    heads: &[usize],
+    least: usize,
+    index: &mut [usize],
+    spare: &mut [usize],
+)
     requires { ⌜ HeadsIn (now file) (now heads) 32 × (length (now file) / 32 ≤ length (now index)) × (length (now index) ≤ 2048) × (length (now spare) ≡ length (now index)) × (now index ≡ replicate (length (now index)) 0) ⌝ }
     ensures { λ _. ⌜ IndexIn (now (file .entry)) (now (index .exit)) ⌝ }
 {
@@ -64,7 +73,7 @@ pub fn index_heads(file: &[u8], heads: &[usize], index: &mut [usize], spare: &mu
     while k < heads.len() {
         let head = heads[k - 1];
         let end = heads[k];
-        if is_long(file, head, end) {
+        if is_long(file, head, end, least) {
             index_at(file, head, end, index, spare);
         }
         k += 1;

@@ -3,39 +3,27 @@ use borrow.Author.Needs.{needs}
 use Rattle.compose.proofs.childless.is_childless_by.Statement.{statement}
 use Rattle.compose.proofs.childless.is_childless_by.Tie as tie
 
-has-few-keys-requires : tie.Need-has-few-keys-requires
-has-few-keys-requires c κs = search needs
-
-keys-childless-requires : tie.Need-keys-childless-requires
-keys-childless-requires c κs = let s = c .before .before .before .before in (c .before .has-few-keys .ensures (c .if1 .taken), s .pre .0, s .pre .1)
-
-returns : tie.Need-returns
-returns c = search needs
-
 is-worth-requires : tie.Need-is-worth-requires
 is-worth-requires c κs = search needs
 
 is-childless-indexed-requires : tie.Need-is-childless-indexed-requires
-is-childless-indexed-requires c κs = let s = c .before .before .before .before .before .before in (c .before .is-worth .ensures (c .if2 .taken), s .pre .0, s .pre .1)
+is-childless-indexed-requires c κs = let s = c .before .before .before .before in (c .before .is-worth .ensures (c .if1 .taken), s .pre .0, s .pre .1)
 
-returns-2 : tie.Need-returns-2
-returns-2 c = search needs
+returns : tie.Need-returns
+returns c = search needs
 
 reads-childless-requires : tie.Need-reads-childless-requires
 reads-childless-requires c κs = search needs
 
-returns-3 : tie.Need-returns-3
-returns-3 c = search needs
+returns-2 : tie.Need-returns-2
+returns-2 c = search needs
 
 pub is-childless-by-spec : {M : Type 1} → statement M
 is-childless-by-spec =
     tie.close
     (tie.spec
-    has-few-keys-requires
-    keys-childless-requires
-    returns
     is-worth-requires
     is-childless-indexed-requires
-    returns-2
+    returns
     reads-childless-requires
-    returns-3)
+    returns-2)

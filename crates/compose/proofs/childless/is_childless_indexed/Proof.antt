@@ -4,7 +4,7 @@ use mathlib.Core.List.{List, _++_}
 use Prim.Native.Nat.{_/_, _≤_, ℕ}
 use native.Mathlib.Omega.{arith}
 use borrow.Author.Needs.{needs}
-use lib.ListN.{length, length-append}
+use lib.ListN.{length, length-append, take}
 use lib.Seq.{length-take-le, take-at}
 use Rattle.registry.specs.Index.{Indexed}
 use Rattle.compose.proofs.childless.is_childless_indexed.Statement.{statement}
@@ -32,20 +32,36 @@ many c = c .index-run .kept .1 .0 ∙ length-take-le _ _ (c .before .before .bef
 room : (c : tie.After-index-run) (rest : List ℕ) → length (c .before .before .before .before .before .args .run .now) / 32 ≤ length (c .index-run .last .1 .0 ++ rest)
 room c rest = omega (arith, many c, length-append (c .index-run .last .1 .0) rest)
 
+-- the front of the places is the index
+front : (c : tie.After-index-run) (rest : List ℕ) → Indexed (c .before .before .before .before .before .args .run .now) (take (length (c .before .before .before .before .before .args .run .now) / 32) (c .index-run .last .1 .0 ++ rest))
+front c rest = subst (Indexed (c .before .before .before .before .before .args .run .now)) (sym (take-at (c .index-run .last .1 .0) _ _ (many c))) (c .index-run .ensures)
+
+goes-by-keys-requires : tie.Need-goes-by-keys-requires
+goes-by-keys-requires c κs = search needs
+
 array-share-prefix-places : tie.Need-array-share-prefix-places
-array-share-prefix-places c = room (c .before .before) _
+array-share-prefix-places c = room (c .before .before .before .before) _
 
-slice-aggregate-finds-childless : tie.Need-slice-aggregate-finds-childless
-slice-aggregate-finds-childless c = sym (length-take-le _ _ (room (c .before .before .before) _))
+slice-aggregate-keys-childless : tie.Need-slice-aggregate-keys-childless
+slice-aggregate-keys-childless c = sym (length-take-le _ _ (room (c .before .before .before .before .before) _))
 
-finds-childless-requires : tie.Need-finds-childless-requires
-finds-childless-requires c κs =
-    let r = c .before .before .before in
-    let s = r .before .before .before .before .before in
-    (subst (Indexed (s .args .run .now)) (sym (take-at (r .index-run .last .1 .0) _ _ (many r))) (r .index-run .ensures), s .pre .1, s .pre .2)
+keys-childless-requires : tie.Need-keys-childless-requires
+keys-childless-requires c κs = let s = c .before .before .before .before .before .before .before .before .before .before in (c .before .before .goes-by-keys .ensures (c .before .if1 .taken), front (c .before .before .before .before .before) _, s .pre .1, s .pre .2)
 
 returns : tie.Need-returns
 returns c = search needs
+
+array-share-prefix-places-2 : tie.Need-array-share-prefix-places-2
+array-share-prefix-places-2 c = room (c .before .before .before .before) _
+
+slice-aggregate-finds-childless : tie.Need-slice-aggregate-finds-childless
+slice-aggregate-finds-childless c = sym (length-take-le _ _ (room (c .before .before .before .before .before) _))
+
+finds-childless-requires : tie.Need-finds-childless-requires
+finds-childless-requires c κs = let s = c .before .before .before .before .before .before .before .before .before .before in (front (c .before .before .before .before .before) _, s .pre .1, s .pre .2)
+
+returns-2 : tie.Need-returns-2
+returns-2 c = search needs
 
 pub is-childless-indexed-spec : {M : Type 1} → statement M
 is-childless-indexed-spec =
@@ -56,7 +72,12 @@ is-childless-indexed-spec =
     array-borrow-prefix-spare
     slice-aggregate-index-run-2
     index-run-requires
+    goes-by-keys-requires
     array-share-prefix-places
+    slice-aggregate-keys-childless
+    keys-childless-requires
+    returns
+    array-share-prefix-places-2
     slice-aggregate-finds-childless
     finds-childless-requires
-    returns)
+    returns-2)

@@ -37,7 +37,7 @@ tested c =
     let l = c .before .before .before .before .loop in
     let one = l .inv .0 in
     let e : suc (l .k - 1) ≡ l .k = omega arith in
-    ap (λ (j : ℕ). isLongRun (s .args .file .now) (getD (s .args .heads .now) (l .k - 1) 0) (getD (s .args .heads .now) j 0)) e ∙ sym (c .is-long .ensures)
+    ap (λ (j : ℕ). isLongRun 16 (s .args .file .now) (getD (s .args .heads .now) (l .k - 1) 0) (getD (s .args .heads .now) j 0)) e ∙ sym (c .is-long .ensures)
 
 loop-holds : tie.Need-loop-holds Inv-loop μ-loop
 loop-holds c = (omega arith, omega arith, refl)

@@ -13,10 +13,10 @@ use Rattle.evaluate.proofs.indexing.index_heads.Statement.{statement}
 use Rattle.evaluate.proofs.indexing.index_heads.Tie as tie
 
 abbrev Inv-loop : tie.InvT-loop
-Inv-loop file heads index₀ spare₀ k₀ index spare k = (1 ≤ k) × (length index ≡ length index₀) × (length spare ≡ length spare₀) × IndexIn file index × Unindexed index (getD heads (k - 1) 0)
+Inv-loop file heads least index₀ spare₀ k₀ index spare k = (1 ≤ k) × (length index ≡ length index₀) × (length spare ≡ length spare₀) × IndexIn file index × Unindexed index (getD heads (k - 1) 0)
 
 abbrev μ-loop : tie.MeasureT-loop
-μ-loop file heads index₀ spare₀ k₀ index spare k = length heads - k
+μ-loop file heads least index₀ spare₀ k₀ index spare k = length heads - k
 
 -- the head before k
 here : (c : tie.In-loop Inv-loop μ-loop)

@@ -17,7 +17,7 @@ sub-result-2 : tie.Need-sub-result-2
 sub-result-2 c = search needs
 
 returns : tie.Need-returns
-returns c = let s = c .before .before in ap (λ (n : ℕ). (eqb n 18 || eqb n 19) && ltb 16 (s .args .end - s .args .head - 1)) (c .code-at .ensures)
+returns c = let s = c .before .before in ap (λ (n : ℕ). (eqb n 18 || eqb n 19) && ltb (s .args .least) (s .args .end - s .args .head - 1)) (c .code-at .ensures)
 
 pub is-long-spec : {M : Type 1} → statement M
 is-long-spec = tie.close (tie.spec code-at-requires sub-result sub-result-2 returns)
