@@ -10,9 +10,10 @@ use spec::records::code_at;
 use spec::records::p_at;
 use spec::records::q_at;
 ghost use mathlib.Core.Path.{_≡_};
-ghost use mathlib.Core.Bool.{true};
+ghost use mathlib.Core.Bool.{true, _&&_, _||_};
 ghost use mathlib.Core.List.{map};
 ghost use Prim.Native.Nat.{_-_, _≤_};
+ghost use lib.Dec.{leb};
 ghost use lib.IntN.{pos};
 ghost use lib.Signed.{leZ};
 ghost use lib.ListN.{length, getD};
@@ -225,14 +226,11 @@ pub(crate) fn is_worth(members: usize, values: usize) -> bool
     (members <= 2048) & (64 < values) & ((16 < members) | (512 < values))
 }
 
-// There are no more members than values of the parent's list, which ascends: going by the keys is quicker.
-pub(crate) fn goes_by_keys(parents: &[i64], members: usize) -> bool
-    ensures { λ r. ⌜ (r ≡ true → isAscending (now (parents .entry)) ≡ true) ⌝ }
+// Going by the keys is quicker: they are no more than the values of the parent's list, and found in it by halving or few.
+pub(crate) fn goes_by_keys(parents: usize, rises: bool, members: usize) -> bool
+    ensures { λ r. ⌜ r ≡ (leb members parents && (rises || leb members 64)) ⌝ }
 {
-    if parents.len() < members {
-        return false;
-    }
-    is_ascending(parents)
+    (members <= parents) & (rises | (members <= 64))
 }
 
 // The first index whose value is the p of one of the records; the list's length if there is none.
