@@ -4,6 +4,7 @@ pub mod Words
 pub mod Uses
 pub mod Left
 pub mod Turns
+pub mod Passing
 pub mod Fields
 pub mod Runs
 pub mod Multiples

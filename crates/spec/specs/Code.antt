@@ -199,6 +199,18 @@ leftAt file st i = left (stateContext st) (recordAt file (st .head)) (st .head +
 abbrev pub asFault : code⁵.Refusal → Option Refused
 asFault r = refuse (r .number) (r .record)
 
+-- The kind of the members of which a list may have many, by the list's number in the table: value, item or pair; 0 for another list.
+abbrev pub plainKind : ℕ → ℕ
+plainKind list = cond (eqb list 1) 2 (cond (eqb list 18) 3 (cond (eqb list 19) 4 0))
+
+-- Their a: that of the head where they are values.
+abbrev pub plainA : ℕ → ℕ → ℕ
+plainA kind a = cond (eqb kind 2) a 0
+
+-- A member of that kind that has no fault.
+abbrev pub isPlain : ℕ → ℕ → Record → Bool
+isPlain kind a m = eqb (m .code) kind && eqb (m .a) a && eqb (m .b) 0 && eqb (m .padding) 0 && (eqZ (m .q) (pos 0) || eqb kind 4) && eqZ (m .r) (pos 0) && onScale (m .p) && onScale (m .q)
+
 -- What a turn leaves.
 abbrev pub afterTurn : List ℕ → ℕ → Turn → Option Refused
 afterTurn file i (Next st) = leftAt file st (i + 1)

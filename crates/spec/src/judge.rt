@@ -24,7 +24,7 @@ pub struct Context {
     pub section: u8,
 }
 
-fn is_zero(x: i64) -> bool
+pub(crate) fn is_zero(x: i64) -> bool
     ensures { λ r. ⌜ r ≡ eqZ x (pos 0) ⌝ }
 {
     x == 0

@@ -5,6 +5,7 @@ mod faults;
 mod judge;
 pub mod kinds;
 pub mod numbers;
+mod plain;
 pub mod records;
 pub mod refusal;
 mod scan;

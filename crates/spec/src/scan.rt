@@ -10,6 +10,10 @@ use crate::kinds::Class;
 use crate::kinds::ROWS;
 use crate::kinds::class_of;
 use crate::kinds::is_member;
+use crate::kinds::row_in;
+use crate::plain::plain_a;
+use crate::plain::plain_end;
+use crate::plain::plain_kind;
 use crate::records::Record;
 use crate::records::record_at;
 use crate::refusal::Refusal;
@@ -178,6 +182,21 @@ fn close(file: &[u8], st: State) -> Refusal
     }
 }
 
+// Passes plain members from record i on: what is left to judge is the same.
+fn pass_plain(rows: &[u32], file: &[u8], st: State, i: usize) -> usize
+    requires { ⌜ (st .head < i) × (i ≤ length (now file) / 32) × (now rows ≡ tableWords) ⌝ }
+    ensures { λ r. ⌜ (i ≤ r) × (r ≤ length (now (file .entry)) / 32) × (leftAt (now (file .entry)) st i ≡ leftAt (now (file .entry)) st r) ⌝ }
+{
+    let head = st.head;
+    let h = record_at(file, head);
+    let w = row_in(rows, h.code, h.b);
+    let kind = plain_kind(w.list);
+    if kind == 0 {
+        return i;
+    }
+    plain_end(file, i, kind, plain_a(kind, h.a))
+}
+
 // The records after the first, which is a head.
 fn scan_from(rows: &[u32], file: &[u8], first: State) -> Refusal
     requires { ⌜ (first .head < 1) × (1 ≤ length (now file) / 32) × (length (now file) ≤ 65536) × Counted first × (now rows ≡ tableWords) ⌝ }
@@ -185,7 +204,7 @@ fn scan_from(rows: &[u32], file: &[u8], first: State) -> Refusal
 {
     let n = file.len() / 32;
     let mut st = first;
-    let mut i = 1;
+    let mut i = pass_plain(rows, file, first, 1);
     while i < n {
         let t = step(rows, file, i, st);
         match t {
@@ -196,7 +215,7 @@ fn scan_from(rows: &[u32], file: &[u8], first: State) -> Refusal
                 st = s;
             }
         }
-        i += 1;
+        i = pass_plain(rows, file, st, i + 1);
     }
     close(file, st)
 }
