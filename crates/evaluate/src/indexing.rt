@@ -3,7 +3,8 @@ use registry::sorting::index_run;
 use spec::domains::part;
 use spec::records::code_at;
 ghost use mathlib.Core.Path.{_≡_};
-ghost use Prim.Native.Nat.{_-_, _/_, _≤_, _<_};
+ghost use Prim.Native.Nat.{_+_, _-_, _/_, _≤_, _<_};
+ghost use lib.Dec.{ltb};
 ghost use lib.ListN.{length, replicate};
 ghost use Rattle.lists.specs.Lists.{any, upto};
 ghost use Rattle.registry.specs.Index.{IndexIn};
@@ -41,6 +42,13 @@ pub fn has_long(file: &[u8], heads: &[usize]) -> bool
         k += 1;
     }
     false
+}
+
+// So many rows are worth an index: more than 24, and one more for each 32 records.
+pub fn index_pays(file: &[u8], rows: usize) -> bool
+    ensures { λ r. ⌜ r ≡ ltb (24 + length (now (file .entry)) / 1024) rows ⌝ }
+{
+    24 + file.len() / 1024 < rows
 }
 
 // Indexes the members of the head at a record.

@@ -15,6 +15,9 @@ add-end c = search needs
 add-end-2 : tie.Need-add-end-2
 add-end-2 c = search needs
 
+index-pays-requires : tie.Need-index-pays-requires
+index-pays-requires c κs = search needs
+
 mul-has-long : tie.Need-mul-has-long
 mul-has-long c = search needs
 
@@ -29,7 +32,7 @@ part-has-long-end c = search needs
 
 has-long-requires : tie.Need-has-long-requires
 has-long-requires c κs =
-    let s = c .before .before .before .before .before .before .before .before .before in
+    let s = c .before .before .before .before .before .before .before .before .before .before in
     constraints-low (s .args .file .now) (s .args .heads .now) (length (s .args .order .now)) (s .args .c) (s .pre .0 .opened) structural (s .args .c) refl
 
 page-indexed-requires : tie.Need-page-indexed-requires
@@ -51,7 +54,7 @@ slice-aggregate-page-mapped : tie.Need-slice-aggregate-page-mapped
 slice-aggregate-page-mapped c = search needs
 
 page-mapped-requires : tie.Need-page-mapped-requires
-page-mapped-requires c κs = let s = c .before .before .before .before .before .before .before .before .before .before .before .before in (s .pre .0, no-index (s .args .file .now), s .pre .1)
+page-mapped-requires c κs = let s = c .before .before .before .before .before .before .before .before .before .before .before .before .before in (s .pre .0, no-index (s .args .file .now), s .pre .1)
 
 same-length-2 : tie.Need-same-length-2
 same-length-2 c = search needs
@@ -72,7 +75,7 @@ slice-aggregate-write-page-3 : tie.Need-slice-aggregate-write-page-3
 slice-aggregate-write-page-3 c = search needs
 
 write-page-requires : tie.Need-write-page-requires
-write-page-requires c κs = let s = c .before .before .before .before .before .before .before .before .before .before .before .before .before .before in (s .pre .0, no-index (s .args .file .now), no-tables (s .args .file .now) (s .args .scratch .now) (s .args .lists .now) (s .args .maps .now) (length (s .args .order .now)), s .pre .1)
+write-page-requires c κs = let s = c .before .before .before .before .before .before .before .before .before .before .before .before .before .before .before in (s .pre .0, no-index (s .args .file .now), no-tables (s .args .file .now) (s .args .scratch .now) (s .args .lists .now) (s .args .maps .now) (length (s .args .order .now)), s .pre .1)
 
 same-length-3 : tie.Need-same-length-3
 same-length-3 c = search needs
@@ -86,6 +89,7 @@ page-checked-spec =
     (tie.spec
     add-end
     add-end-2
+    index-pays-requires
     mul-has-long
     sub-has-long
     part-has-long-start

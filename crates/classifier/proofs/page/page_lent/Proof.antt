@@ -172,7 +172,7 @@ returns-4 : tie.Need-returns-4
 returns-4 c =
     let s = c .before .before .before .before .before .before .before .before .before .before .before .before .before .before .before .before .before .before .before .before .before .before .before .before .before .before in
     let r = c .before .page-of in
-    gives-page (lateFault (asEngine (s .args .engine)) (decoded (s .args .file .now)) (length (s .args .out .now)) (asStart (s .args .start))) (pageOf (decoded (s .args .file .now)) (length (s .args .out .now)) (dueTuples (asEngine (s .args .engine)) (decoded (s .args .file .now)) (asStart (s .args .start))) (asStart (s .args .start))) (over (pageWords (asEngine (s .args .engine)) (decoded (s .args .file .now)) (length (s .args .out .now)) (dueTuples (asEngine (s .args .engine)) (decoded (s .args .file .now)) (asStart (s .args .start)))) (s .args .out .now)) (s .args .out .now) (not-late (c .before .before .before .before .before .before .before .before)) (r .result .answer) (r .result .last) (r .last .1 .1 .1 .1 .1 .1 .1 .1 .1 .0) (r .ensures .0) (r .ensures .1)
+    gives-page (lateFault (asEngine (s .args .engine)) (decoded (s .args .file .now)) (length (s .args .out .now)) (asStart (s .args .start))) (pageOf (decoded (s .args .file .now)) (length (s .args .out .now)) (dueTuples (asEngine (s .args .engine)) (decoded (s .args .file .now)) (asStart (s .args .start))) (asStart (s .args .start))) (over (pageWords (asEngine (s .args .engine)) (decoded (s .args .file .now)) (length (s .args .out .now)) (dueTuples (asEngine (s .args .engine)) (decoded (s .args .file .now)) (asStart (s .args .start)))) (s .args .out .now)) (s .args .out .now) (not-late (c .before .before .before .before .before .before .before .before)) (r .result .answer) (r .result .last) (r .last .1 .1 .1 .1 .1 .1 .1 .1 .1 .1 .0) (r .ensures .0) (r .ensures .1)
 
 pub page-lent-spec : {M : Type 1} → statement M
 page-lent-spec =
