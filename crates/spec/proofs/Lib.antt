@@ -16,6 +16,7 @@ pub mod Groups
 pub mod Good
 pub mod Sections
 pub mod Accepted
+pub mod Heads
 pub mod Shapes
 pub mod Answers
 pub mod Places

@@ -62,7 +62,7 @@ member-section k (member j) b b′ e =
 abbrev pub OneSection : Group → Type 0
 OneSection (group h ms) = All (λ (m : Record). sectionOf (m .kind) ≡ sectionOf (h .kind)) ms
 
-members-section : (k : Kind) (n : ℕ) (h : Record) (before ms : List Record) → MembersGood k n h before ms → All (λ (m : Record). sectionOf (m .kind) ≡ sectionOf k) ms
+pub members-section : (k : Kind) (n : ℕ) (h : Record) (before ms : List Record) → MembersGood k n h before ms → All (λ (m : Record). sectionOf (m .kind) ≡ sectionOf k) ms
 members-section k n h before [] g = []ᴬ
 members-section k n h before (m ∷ ms) g = member-section k (m .kind) (h .b) (m .b) (g .0) ∷ᴬ members-section k n h (before ++ (m ∷ [])) ms (g .2)
 

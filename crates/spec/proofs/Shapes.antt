@@ -1,62 +1,36 @@
--- What a file's shape is computed from: turns of loops over its records, products that stop growing, and what a file without faults gives.
-use mathlib.Core.Bool.{Bool, _&&_, _||_, and-true, cond, false, false≢true, not, true, true≢false}
+-- What a file's shape is computed from: products that stop growing, fields in scale, counts, the product and the total.
+use mathlib.Core.Bool.{Bool, _&&_, _||_, cond, false, false≢true, not, true, true≢false}
 use mathlib.Core.List.{List, [], _++_, _∷_}
-use mathlib.Core.Logic.{_⊎_, inl, inr}
 use mathlib.Core.Option.{none}
 use mathlib.Core.Path.{_∙_, _≡_, ap, ap₂, refl, subst, sym}
 use Prim.Native.Nat.{_*_, _+_, _/_, _<_, _≤_, suc, zero, ℕ}
-use native.Mathlib.Nat.{le-div-iff-mul-le, mul-assoc, mul-comm, mul-one, mul-zero, one-mul}
-use native.Mathlib.Numerals.{add-one}
+use native.Mathlib.Nat.{le-div-iff-mul-le, mul-assoc, mul-comm, mul-one, mul-zero}
 use native.Mathlib.Omega.{arith}
 use lib.Dec.{eqb, leb, ltb}
 use lib.IntN.{natAbs, pos}
-use lib.ListN.{drop, drop-of-length-le, length, length-map}
+use lib.ListN.{drop, length, length-map}
 use Rattle.lists.specs.Integers.{eqZ}
-use Rattle.lists.specs.Lists.{concatMap, consIf, countIf, filter, product, sucIf}
+use Rattle.lists.specs.Lists.{concatMap, product}
 use Rattle.lists.proofs.All.{All, All-at, []ᴬ, _∷ᴬ_}
 use Rattle.lists.proofs.Integers.{eqZ-eq}
-use Rattle.lists.proofs.Lists.{map-append}
-use Rattle.lists.proofs.Numbers.{product-append}
 use Rattle.lists.proofs.Range.{in-range}
-use Rattle.lists.proofs.Tests.{and-false, leb-no, leb-yes, ltb-no, ltb-yes, no-ge, no-gt, or-split, yes-le, yes-lt}
-use Rattle.spec.specs.Code.{InScale, capped, domainLength, factorAt, headAt, isHead, lengthBy, lengths}
+use Rattle.lists.proofs.Tests.{eqb-no, leb-no, leb-yes, no-ge, no-gt, or-split, yes-le, yes-lt}
+use Rattle.spec.specs.Code.{InScale, capped, domainLength, headAt, lengthBy, lengths}
 use Rattle.spec.specs.Domain.{domain, stepOf, total, zeroWithout}
-use Rattle.spec.specs.Kind.{Kind, constraint, field, fieldRow, isConstraint, isField, isMember, kindOf, member, projector, sectionOf, unknown}
+use Rattle.spec.specs.Kind.{Kind, constraint, field, fieldRow, isField, isMember, kindOf, member, projector, unknown}
 use Rattle.spec.specs.Record.{Group, Record, decoded, fieldBy, fieldIn, fieldOf, group, groups, memberRun, recordAt, recordsOf, specOf, unlessMember}
 use Rattle.spec.specs.Refusal.{Context, after, context, negative, offScale, recordsFault, strayBy, strayByte}
-use Rattle.spec.specs.Shape.{standsAt}
 use Rattle.spec.specs.Spec.{FieldSpec, Spec}
 use Rattle.spec.specs.declared.walker.Head.{Head}
 use Rattle.spec.specs.declared.walker.Head.the-variants as heads
-use Rattle.spec.proofs.Accepted.{count-constraints, count-fields, fieldOf-other}
+use Rattle.spec.proofs.Accepted.{count-constraints, count-fields, fields-of-groups}
 use Rattle.spec.proofs.Domain.{length-multiples}
 use Rattle.spec.proofs.Fields.{length-records, record-getD, records-from}
-use Rattle.spec.proofs.Good.{Good, HeadGood, headIs, records-whole}
-use Rattle.spec.proofs.Sections.{constraint-section, field-section, not-field}
+use Rattle.spec.proofs.Good.{Good, HeadGood, constraintGroups, fieldGroups, records-whole}
+use Rattle.spec.proofs.Heads.{past-groups, past-members}
+use Rattle.spec.proofs.Runs.{runLength}
+use Rattle.spec.proofs.Sections.{not-field}
 use Rattle.spec.proofs.Uses.{field-in-scale, not-off}
-
--- No record is left after the last.
-records-end : (file : List ℕ) (i : ℕ) → length file / 32 ≤ i → drop i (recordsOf file) ≡ []
-records-end file i h = let e : length (recordsOf file) ≤ i = omega (arith, length-records file) in drop-of-length-le (recordsOf file) e
-
--- ---- how many records pass a test
-module _ (p : Record → Bool) (file : List ℕ) where
-  -- How many records from i on pass the test.
-  abbrev pub countFrom : ℕ → ℕ
-  countFrom i = countIf p (drop i (recordsOf file))
-
-  -- A turn: next is the count after record i.
-  pub count-turn : (i count next : ℕ) → i < length file / 32 → ((p (recordAt file i) ≡ true) × (next ≡ count + 1)) ⊎ ((p (recordAt file i) ≡ false) × (next ≡ count))
-      → (next ≤ count + 1) × (next + countFrom (i + 1) ≡ count + countFrom i)
-  count-turn i count next h (inl w) =
-      let e : countFrom i ≡ suc (countFrom (i + 1)) = rw (add-one, records-from file i h) (rw (w .0)) in
-      (omega (arith, w .1), omega (arith, w .1))
-  count-turn i count next h (inr w) =
-      let e : countFrom i ≡ countFrom (i + 1) = rw (add-one, records-from file i h) (rw (w .0)) in
-      (omega (arith, w .1), omega (arith, w .1))
-
-  pub count-end : (i : ℕ) → length file / 32 ≤ i → countFrom i ≡ 0
-  count-end i h = rw (records-end file i h)
 
 -- ---- what a walker finds at a record's number
 abbrev codeOr : Head → ℕ
@@ -76,40 +50,6 @@ head-code file i code = go (ltb i (length file / 32)) refl
     go : (b : Bool) → ltb i (length file / 32) ≡ b → cond b (heads.Code (recordAt file i .code)) heads.End ≡ heads.Code code → (i < length file / 32) × (recordAt file i .code ≡ code)
     go true e c = (yes-lt i (length file / 32) e, ap codeOr c)
     go false e c = let z : _≡_ {A = ℕ} 0 1 = cc in absurd (omega arith)
-
--- ---- how many records stand before a section
--- Those known to stand before it, and what stands before it of the rest.
-pub stands-known : (section i : ℕ) (ms : List Record) → i ≤ standsAt section ms → i + standsAt section (drop i ms) ≡ standsAt section ms
-stands-known section zero ms h = omega arith
-stands-known section (suc i) [] h = absurd (omega arith)
-stands-known section (suc i) (m ∷ ms) h = go (ltb (sectionOf (m .kind)) section) h (stands-known section i ms)
-  where
-    go : (b : Bool) → suc i ≤ cond b (suc (standsAt section ms)) 0 → (i ≤ standsAt section ms → i + standsAt section (drop i ms) ≡ standsAt section ms) → suc i + standsAt section (drop i ms) ≡ cond b (suc (standsAt section ms)) 0
-    go true l e = omega (arith, e (omega arith))
-    go false l e = absurd (omega arith)
-
--- What stands before a section stands before a later one.
-pub stands-later : (a b : ℕ) (ms : List Record) → a ≤ b → standsAt a ms ≤ standsAt b ms
-stands-later a b [] h = omega arith
-stands-later a b (m ∷ ms) h = go (ltb (sectionOf (m .kind)) a) refl (stands-later a b ms h)
-  where
-    go : (t : Bool) → ltb (sectionOf (m .kind)) a ≡ t → standsAt a ms ≤ standsAt b ms → cond t (suc (standsAt a ms)) 0 ≤ standsAt b (m ∷ ms)
-    go true e l = let g = yes-lt (sectionOf (m .kind)) a e in rw (ltb-yes (sectionOf (m .kind)) b (omega arith)) (omega arith)
-    go false e l = omega arith
-
-module _ (section : ℕ) (file : List ℕ) where
-  -- How many records from i on stand before the section.
-  abbrev pub standsFrom : ℕ → ℕ
-  standsFrom i = standsAt section (drop i (recordsOf file))
-
-  pub stands-past : (i : ℕ) → i < length file / 32 → sectionOf (recordAt file i .kind) < section → standsFrom i ≡ suc (standsFrom (i + 1))
-  stands-past i h l = rw (add-one, records-from file i h) (rw (ltb-yes (sectionOf (recordAt file i .kind)) section l))
-
-  pub stands-here : (i : ℕ) → i < length file / 32 → section ≤ sectionOf (recordAt file i .kind) → standsFrom i ≡ 0
-  stands-here i h l = rw (records-from file i h) (rw (ltb-no (sectionOf (recordAt file i .kind)) section l))
-
-  pub stands-end : (i : ℕ) → length file / 32 ≤ i → standsFrom i ≡ 0
-  stands-end i h = rw (records-end file i h)
 
 -- ---- products that stop growing
 pub capped-within : (n : ℕ) → n ≤ 1000000000 → capped n ≡ n
@@ -203,7 +143,7 @@ field-at-scaled file i h e =
     let scaled = records-scaled (recordsOf file) (good-scaled (context 0 0 0) (groups (recordsOf file)) (records-whole (recordsOf file) e .good)) in
     subst FieldScaled (record-getD d file i h) (All-at d (recordsOf file) scaled i (omega (arith, length-records file)))
 
--- ---- what a record brings to the product
+-- ---- what is a field, and the length of its domain
 -- Only kind number 1 is a field.
 pub other-kind : (n : ℕ) → n < 256 → ¬ (n ≡ 1) → isField (kindOf n) ≡ false
 unfolding kindOf
@@ -220,88 +160,58 @@ length-domain zero h ms = sym (length-multiples (stepOf (natAbs (h .r))) (pos 0)
 length-domain (suc zero) h ms = sym (length-multiples (stepOf (natAbs (h .r))) (h .p) (h .q))
 length-domain (suc (suc k)) h ms = sym (length-map ms (λ m. m .p))
 
-module _ (rs : List Record) (h : Record) (i : ℕ) where
-  pub factor-other : isField (h .kind) ≡ false → factorAt rs h i ≡ 1
-  factor-other e = ap (λ l. product (lengths l)) (fieldOf-other (group h (memberRun (drop (suc i) rs))) e)
-
-  pub factor-field : h .kind ≡ field → factorAt rs h i ≡ domainLength h (length (memberRun (drop (suc i) rs)))
-  factor-field e = ap (λ (k : Kind). product (lengths (fieldIn k h (memberRun (drop (suc i) rs))))) e ∙ mul-one _ ∙ sym (length-domain (h .b) h (memberRun (drop (suc i) rs)))
-
 -- ---- the product
-abbrev fieldsProduct : List Record → ℕ
-fieldsProduct rs = product (lengths (concatMap fieldOf (groups rs)))
-
-lengths-append : (xs ys : List FieldSpec) → product (lengths (xs ++ ys)) ≡ product (lengths xs) * product (lengths ys)
-lengths-append xs ys = ap product (map-append (λ f. length (domain f)) xs ys) ∙ product-append (lengths xs) (lengths ys)
-
--- The first record brings the length of its domain where it is a field, else 1.
-product-cons : (h : Record) (hs : List Record) → fieldsProduct (h ∷ hs) ≡ product (lengths (fieldIn (h .kind) h (memberRun hs))) * fieldsProduct hs
-product-cons h hs = go (isMember (h .kind)) refl
-  where
-    go : (b : Bool) → isMember (h .kind) ≡ b → product (lengths (concatMap fieldOf (unlessMember b h (memberRun hs) (groups hs)))) ≡ product (lengths (fieldIn (h .kind) h (memberRun hs))) * fieldsProduct hs
-    go true e = sym (ap (λ l. product (lengths l) * fieldsProduct hs) (fieldOf-other (group h (memberRun hs)) (not-field (h .kind) e)) ∙ one-mul _)
-    go false e = lengths-append (fieldIn (h .kind) h (memberRun hs)) (concatMap fieldOf (groups hs))
-
 module _ (file : List ℕ) where
   -- The product of the domain lengths of the fields from record i on.
   abbrev pub productFrom : ℕ → ℕ
-  productFrom i = fieldsProduct (drop i (recordsOf file))
+  productFrom i = product (lengths (concatMap fieldOf (groups (drop i (recordsOf file)))))
 
   pub product-whole : productFrom 0 ≡ product (lengths (decoded file .fields))
   unfolding decoded specOf
   product-whole = refl
 
-  product-from : (i : ℕ) → i < length file / 32 → productFrom i ≡ factorAt (recordsOf file) (recordAt file i) i * productFrom (i + 1)
-  product-from i h = rw (add-one i, records-from file i h) (product-cons (recordAt file i) (drop (suc i) (recordsOf file)))
+  -- A field brings the length of its domain.
+  product-field : (i end : ℕ) → i < length file / 32 → recordAt file i .kind ≡ field → end ≡ i + 1 + runLength file (suc i) → productFrom i ≡ domainLength (recordAt file i) (runLength file (suc i)) * productFrom end
+  product-field i end h e q =
+      let m = recordAt file i in
+      let rest = drop (suc i) (recordsOf file) in
+      ap (λ (l : List Record). product (lengths (concatMap fieldOf (groups l)))) (records-from file i h)
+      ∙ ap (λ (b : Bool). product (lengths (concatMap fieldOf (unlessMember b m (memberRun rest) (groups rest))))) (ap isMember e)
+      ∙ ap (λ (k : Kind). product (lengths (fieldIn k m (memberRun rest) ++ concatMap fieldOf (groups rest)))) e
+      ∙ ap₂ (λ (k : ℕ) (gs : List Group). k * product (lengths (concatMap fieldOf gs))) (sym (length-domain (m .b) m (memberRun rest))) (sym (past-groups rest) ∙ ap groups (past-members file i end q))
 
-  -- A turn: t takes record i's factor, and is capped.
-  pub product-turn : (t i : ℕ) → i < length file / 32 → capped (capped (t * factorAt (recordsOf file) (recordAt file i) i) * productFrom (i + 1)) ≡ capped (t * productFrom i)
-  product-turn t i h =
-      let f = factorAt (recordsOf file) (recordAt file i) i in
-      capped-times (t * f) (productFrom (i + 1)) ∙ ap capped (mul-assoc t f (productFrom (i + 1)) ∙ ap (λ (n : ℕ). t * n) (sym (product-from i h)))
+  -- A turn: t takes the field's length, and is capped.
+  pub product-turn : (t i end : ℕ) → i < length file / 32 → recordAt file i .kind ≡ field → end ≡ i + 1 + runLength file (suc i)
+      → capped (capped (t * domainLength (recordAt file i) (runLength file (suc i))) * productFrom end) ≡ capped (t * productFrom i)
+  product-turn t i end h e q =
+      let f = domainLength (recordAt file i) (runLength file (suc i)) in
+      capped-times (t * f) (productFrom end) ∙ ap capped (mul-assoc t f (productFrom end) ∙ ap (λ (n : ℕ). t * n) (sym (product-field i end h e q)))
 
-  -- A turn at what is no field: t stays.
-  pub product-pass : (t i : ℕ) → i < length file / 32 → isField (recordAt file i .kind) ≡ false → capped (t * productFrom (i + 1)) ≡ capped (t * productFrom i)
-  product-pass t i h e =
-      ap (λ (n : ℕ). capped (t * n)) (sym (product-from i h ∙ ap (λ (f : ℕ). f * productFrom (i + 1)) (factor-other (recordsOf file) (recordAt file i) i e) ∙ one-mul (productFrom (i + 1))))
+  pub product-end : (t i : ℕ) → t ≤ 1000000001 → fieldGroups (groups (drop i (recordsOf file))) ≡ [] → capped (t * productFrom i) ≡ t
+  product-end t i l e =
+      let none : productFrom i ≡ 1 = ap (λ (fs : List FieldSpec). product (lengths fs)) (sym (fields-of-groups (groups (drop i (recordsOf file)))) ∙ ap (concatMap fieldOf) e) in
+      ap (λ (n : ℕ). capped (t * n)) none ∙ ap capped (mul-one t) ∙ capped-stays t l
 
-  pub product-end : (t i : ℕ) → t ≤ 1000000001 → length file / 32 ≤ i → capped (t * productFrom i) ≡ t
-  product-end t i l h = rw (records-end file i h) (ap capped (mul-one t) ∙ capped-stays t l)
-
--- ---- the total
--- A section has as many heads as groups.
-module _ (section : ℕ) (test : Kind → Bool) (agree : (k : Kind) → isMember k ≡ false → test k ≡ eqb (sectionOf k) section) where
-  count-heads : (rs : List Record) → countIf (isHead section) rs ≡ length (filter (headIs test) (groups rs))
-  count-heads [] = refl
-  count-heads (h ∷ hs) = go (isMember (h .kind)) refl (count-heads hs)
-    where
-      length-cons : (b : Bool) (g : Group) (gs : List Group) → sucIf b (length gs) ≡ length (consIf b g gs)
-      length-cons true g gs = refl
-      length-cons false g gs = refl
-
-      go : (b : Bool) → isMember (h .kind) ≡ b → countIf (isHead section) hs ≡ length (filter (headIs test) (groups hs))
-          → sucIf (eqb (sectionOf (h .kind)) section && not b) (countIf (isHead section) hs) ≡ length (filter (headIs test) (unlessMember b h (memberRun hs) (groups hs)))
-      go true e ih = rw (and-false (eqb (sectionOf (h .kind)) section)) ih
-      go false e ih = ap₂ sucIf (and-true (eqb (sectionOf (h .kind)) section) ∙ sym (agree (h .kind) e)) ih ∙ length-cons (test (h .kind)) (group h (memberRun hs)) (filter (headIs test) (groups hs))
-
+-- ---- counts and the total
 module _ (file : List ℕ) where
-  -- As many field heads as fields, as many constraint heads as constraints.
-  pub fields-counted : countIf (isHead 0) (recordsOf file) ≡ length (decoded file .fields)
+  -- As many field groups as fields, as many constraint groups as constraints.
+  pub fields-counted : length (fieldGroups (groups (recordsOf file))) ≡ length (decoded file .fields)
   unfolding decoded specOf
-  fields-counted = count-heads 0 isField field-section (recordsOf file) ∙ count-fields (groups (recordsOf file))
+  fields-counted = count-fields (groups (recordsOf file))
 
-  pub constraints-counted : countIf (isHead 1) (recordsOf file) ≡ length (decoded file .constraints)
+  pub constraints-counted : length (constraintGroups (groups (recordsOf file))) ≡ length (decoded file .constraints)
   unfolding decoded specOf
-  constraints-counted = count-heads 1 isConstraint constraint-section (recordsOf file) ∙ count-constraints (groups (recordsOf file))
+  constraints-counted = count-constraints (groups (recordsOf file))
 
 module _ (s : Spec) where
-  pub total-none : length (s .fields) ≡ 0 → total s ≡ 0
+  -- 0 with no fields, else the product.
+  pub total-capped : cond (eqb (length (s .fields)) 0) 0 (capped (product (lengths (s .fields)))) ≡ capped (total s)
   unfolding total
-  total-none e = go (s .fields) e
+  total-capped = go (s .fields)
     where
-      go : (fs : List FieldSpec) → length fs ≡ 0 → zeroWithout fs (product (lengths (s .fields))) ≡ 0
-      go [] e = refl
-      go (f ∷ fs) e = absurd (omega arith)
+      go : (fs : List FieldSpec) → cond (eqb (length fs) 0) 0 (capped (product (lengths (s .fields)))) ≡ capped (zeroWithout fs (product (lengths (s .fields))))
+      go [] = refl
+      go (f ∷ fs) = ap (λ (b : Bool). cond b 0 (capped (product (lengths (s .fields))))) (eqb-no (suc (length fs)) 0 (omega arith))
 
   pub total-some : ¬ (length (s .fields) ≡ 0) → total s ≡ product (lengths (s .fields))
   unfolding total

@@ -7,17 +7,17 @@ use Prim.Native.Nat.{ℕ, zero, suc, _+_, _-_, _*_, _/_, _^_, _≤_}
 use lib.Dec.{eqb, leb, ltb}
 use lib.Signed.{ltZ}
 use Rattle.lists.specs.Integers.{eqZ}
-use Rattle.lists.specs.Lists.{any, product, upto}
+use Rattle.lists.specs.Lists.{any, upto}
 use lib.IntN.{ℤ, pos, natAbs}
 use lib.ListN.{length, getD, take, drop}
 use Rattle.spec.specs.Domain.{domain, firstMultiple, howMany, stepOf}
 use Rattle.spec.specs.Refusal.{Answer, refused, accepted, Context, Refused, refuse, _▷_, onScale, negative, blankBy, membersFault, groupsFault}
 use Rattle.spec.specs.declared.domains.Rise as code″
 use Rattle.spec.specs.Kind as kinds
-use Rattle.spec.specs.Kind.{isMember, sectionOf, Kind, field, unknown, constraint, projector, member, kindOf, Use, unused, number, natural, own, names, fieldRow, rowOf}
+use Rattle.spec.specs.Kind.{sectionOf, Kind, field, unknown, constraint, projector, member, kindOf, Use, unused, number, natural, own, names, fieldRow, rowOf}
 use Rattle.spec.specs.Shape.{Shape}
 use Rattle.spec.specs.Spec.{FieldSpec}
-use Rattle.spec.specs.Record.{Record, recordAt, recordsOf, memberRun, groups, fieldIn}
+use Rattle.spec.specs.Record.{Record, recordAt, recordsOf, memberRun, groups}
 use Rattle.spec.specs.declared.kinds.Class.{Class}
 use Rattle.spec.specs.declared.kinds.Class.the-variants.{Field, Member, Constraint, Projector, Unknown}
 use Rattle.spec.specs.declared.kinds.Row as code
@@ -225,20 +225,12 @@ abbrev pub headAt : List ℕ → ℕ → Head
 headAt file i = cond (ltb i (length file / 32)) (heads.Code (recordAt file i .code)) heads.End
 
 -- ---- what the layers above need
--- A head that stands in a section.
-abbrev pub isHead : ℕ → Record → Bool
-isHead section m = eqb (sectionOf (m .kind)) section && not (isMember (m .kind))
-
 -- A product that stops growing above the limit.
 abbrev pub capped : ℕ → ℕ
 capped n = cond (leb n 1000000000) n 1000000001
 
 abbrev pub lengths : List FieldSpec → List ℕ
 lengths fs = map (λ f. length (domain f)) fs
-
--- What record i brings to the product.
-abbrev pub factorAt : List Record → Record → ℕ → ℕ
-factorAt rs h i = product (lengths (fieldIn (h .kind) h (memberRun (drop (suc i) rs))))
 
 abbrev pub asShape : code⁗.Shape → Shape
 asShape s = record { fields = s .fields; constraints = s .constraints; constraintsAt = s .«constraints_at»; projectorAt = s .«projector_at»; total = s .total }

@@ -134,7 +134,7 @@ pub fn allows_value(h: Record, values: &[u8], v: Value) -> bool
 }
 
 // The first record after head that is no member.
-fn members_end(file: &[u8], head: usize) -> usize
+pub(crate) fn members_end(file: &[u8], head: usize) -> usize
     requires { ⌜ head < length (now file) / 32 ⌝ }
     ensures { λ r. ⌜ r ≡ head + 1 + length (memberRun (drop (suc head) (recordsOf (now (file .entry))))) ⌝ }
 {

@@ -1,64 +1,37 @@
 // What the layers above need of a file that has no fault.
 use crate::domains::domain_len;
 use crate::domains::members;
-use crate::kinds::is_member;
+use crate::domains::members_end;
 use crate::kinds::section_of;
-use crate::records::code_at;
 use crate::records::record_at;
 use crate::walker::Head;
 use crate::walker::next_head;
 ghost use mathlib.Core.Path.{_≡_};
+ghost use mathlib.Core.Bool.{cond};
 ghost use mathlib.Core.Option.{none};
-ghost use Prim.Native.Nat.{_*_, _/_, _≤_, _<_};
+ghost use Prim.Native.Nat.{_*_, _≤_};
+ghost use lib.Dec.{eqb};
 ghost use lib.ListN.{length};
-ghost use Rattle.lists.specs.Lists.{countIf, product};
-ghost use Rattle.spec.specs.Domain.{total};
-ghost use Rattle.spec.specs.Record.{recordAt, recordsOf, decoded};
+ghost use Rattle.lists.specs.Lists.{product};
+ghost use Rattle.spec.specs.Record.{recordsOf, decoded};
 ghost use Rattle.spec.specs.Refusal.{recordsFault};
 ghost use Rattle.spec.specs.Shape.{standsAt};
-ghost use Rattle.spec.specs.Code.{capped, isHead, lengths, factorAt};
+ghost use Rattle.spec.specs.Code.{capped, lengths};
 
 // A total may be this, and no more.
 pub const LIMIT: usize = 1_000_000_000;
 
-// How many fields, for section 0, or constraints, for section 1.
-pub(crate) fn heads(file: &[u8], section: u8) -> usize
-    requires { ⌜ length (now file) ≤ 65536 ⌝ }
-    ensures { λ r. ⌜ r ≡ countIf (isHead section) (recordsOf (now (file .entry))) ⌝ }
-{
-    let n = file.len() / 32;
-    let mut count = 0;
-    let mut i = 0;
-    while i < n {
-        let code = code_at(file, i);
-        if (section_of(code) == section) & !is_member(code) {
-            count += 1;
-        }
-        i += 1;
-    }
-    count
+// The fields of a file that has no fault: how many, the records up to the last of their values, and the product of their domain lengths, which stops growing above the limit.
+pub struct Fields {
+    pub count: usize,
+    pub end: usize,
+    pub product: usize,
 }
 
-// How many records stand before the first of a section or a later one; `from` of them are known to.
-pub(crate) fn stands_at(file: &[u8], section: u8, from: usize) -> usize
-    requires { ⌜ from ≤ standsAt section (recordsOf (now file)) ⌝ }
-    ensures { λ r. ⌜ r ≡ standsAt section (recordsOf (now (file .entry))) ⌝ }
-{
-    let mut i = from;
-    loop {
-        let head = next_head(file, i);
-        match head {
-            Head::End => {
-                return i;
-            }
-            Head::Code(code) => {
-                if section <= section_of(code) {
-                    return i;
-                }
-            }
-        }
-        i += 1;
-    }
+// The constraints likewise.
+pub struct Constraints {
+    pub count: usize,
+    pub end: usize,
 }
 
 // a × b, which stops growing above the limit.
@@ -75,42 +48,74 @@ fn times(a: usize, b: usize) -> usize
     a * b
 }
 
-// The length of the domain of field i; 1 where record i is no field.
-fn factor(file: &[u8], i: usize) -> usize
-    requires { ⌜ (i < length (now file) / 32) × (recordsFault (recordsOf (now file)) ≡ none) ⌝ }
-    ensures { λ r. ⌜ r ≡ factorAt (recordsOf (now (file .entry))) (recordAt (now (file .entry)) i) i ⌝ }
+// Goes from field to field, past the values of each.
+pub(crate) fn fields_of(file: &[u8]) -> Fields
+    requires { ⌜ (length (now file) ≤ 65536) × (recordsFault (recordsOf (now file)) ≡ none) ⌝ }
+    ensures count { λ r. ⌜ r .count ≡ length (decoded (now (file .entry)) .fields) ⌝ }
+    ensures end { λ r. ⌜ r .end ≡ standsAt 1 (recordsOf (now (file .entry))) ⌝ }
+    ensures product { λ r. ⌜ r .product ≡ capped (product (lengths (decoded (now (file .entry)) .fields))) ⌝ }
 {
-    let h = record_at(file, i);
-    if h.code != 1 {
-        return 1;
-    }
-    domain_len(h, members(file, i).len() / 32)
-}
-
-// The product of the domain lengths.
-fn product_of(file: &[u8]) -> usize
-    requires { ⌜ recordsFault (recordsOf (now file)) ≡ none ⌝ }
-    ensures { λ r. ⌜ r ≡ capped (product (lengths (decoded (now (file .entry)) .fields))) ⌝ }
-{
-    let n = file.len() / 32;
+    let mut count = 0;
     let mut t = 1;
     let mut i = 0;
-    while i < n {
-        if code_at(file, i) == 1 {
-            t = times(t, factor(file, i));
+    loop {
+        let head = next_head(file, i);
+        match head {
+            Head::End => {
+                return Fields {
+                    count,
+                    end: i,
+                    product: t,
+                };
+            }
+            Head::Code(code) => {
+                if code != 1 {
+                    return Fields {
+                        count,
+                        end: i,
+                        product: t,
+                    };
+                }
+            }
         }
-        i += 1;
+        let values = members(file, i).len() / 32;
+        t = times(t, domain_len(record_at(file, i), values));
+        count += 1;
+        i += 1 + values;
     }
-    t
+}
+
+// Goes from constraint to constraint, from the first on.
+pub(crate) fn constraints_of(file: &[u8], from: usize) -> Constraints
+    requires { ⌜ (length (now file) ≤ 65536) × (recordsFault (recordsOf (now file)) ≡ none) × (from ≡ standsAt 1 (recordsOf (now file))) ⌝ }
+    ensures count { λ r. ⌜ r .count ≡ length (decoded (now (file .entry)) .constraints) ⌝ }
+    ensures end { λ r. ⌜ r .end ≡ standsAt 2 (recordsOf (now (file .entry))) ⌝ }
+{
+    let mut count = 0;
+    let mut i = from;
+    loop {
+        let head = next_head(file, i);
+        match head {
+            Head::End => {
+                return Constraints { count, end: i };
+            }
+            Head::Code(code) => {
+                if section_of(code) != 1 {
+                    return Constraints { count, end: i };
+                }
+            }
+        }
+        count += 1;
+        i = members_end(file, i);
+    }
 }
 
 // The total, which stops growing above the limit; 0 with no fields.
-pub(crate) fn total_of(file: &[u8], fields: usize) -> usize
-    requires { ⌜ (recordsFault (recordsOf (now file)) ≡ none) × (fields ≡ countIf (isHead 0) (recordsOf (now file))) ⌝ }
-    ensures { λ r. ⌜ r ≡ capped (total (decoded (now (file .entry)))) ⌝ }
+pub(crate) fn total_of(f: Fields) -> usize
+    ensures { λ r. ⌜ r ≡ cond (eqb (f .count) 0) 0 (f .product) ⌝ }
 {
-    if fields == 0 {
+    if f.count == 0 {
         return 0;
     }
-    product_of(file)
+    f.product
 }

@@ -2,8 +2,8 @@
 use crate::refusal::Refusal;
 use crate::scan::scan;
 use crate::shape::LIMIT;
-use crate::shape::heads;
-use crate::shape::stands_at;
+use crate::shape::constraints_of;
+use crate::shape::fields_of;
 use crate::shape::total_of;
 ghost use mathlib.Core.Path.{_≡_};
 ghost use Rattle.spec.specs.Refusal.{answer, fileFault};
@@ -38,20 +38,20 @@ pub fn validate(file: &[u8]) -> Validation
     if fault.number != 0 {
         return Validation::Refused(fault);
     }
-    let fields = heads(file, 0);
-    let total = total_of(file, fields);
+    let fields = fields_of(file);
+    let total = total_of(fields);
     if LIMIT < total {
         return Validation::Refused(Refusal {
             number: 10,
             record: 0,
         });
     }
-    let constraints_at = stands_at(file, 1, 0);
+    let constraints = constraints_of(file, fields.end);
     Validation::Accepted(Shape {
-        fields,
-        constraints: heads(file, 1),
-        constraints_at,
-        projector_at: stands_at(file, 2, constraints_at),
+        fields: fields.count,
+        constraints: constraints.count,
+        constraints_at: fields.end,
+        projector_at: constraints.end,
         total,
     })
 }

@@ -1,18 +1,19 @@
 -- `spec::validate::validate` meets its contract: refused 1, by the scan, or 10; else the shape.
-use mathlib.Core.Bool.{not}
+use mathlib.Core.Bool.{cond, not}
 use mathlib.Core.Option.{none}
-use mathlib.Core.Path.{_∙_, _≡_, ap, sym}
+use mathlib.Core.Path.{_∙_, _≡_, ap, ap₂, sym}
 use Prim.Native.Nat.{_%_, _≤_, ℕ}
-use native.Mathlib.Omega.{arith}
 use lib.Dec.{eqb, ltb}
 use lib.ListN.{length}
 use borrow.Author.Needs.{needs}
 use Rattle.lists.proofs.Tests.{no-ge, or-split}
+use Rattle.spec.specs.Code.{capped}
+use Rattle.spec.specs.Domain.{total}
 use Rattle.spec.specs.Record.{decoded, recordsOf}
 use Rattle.spec.specs.Refusal.{accepted, recordsFault, refuse}
 use Rattle.spec.specs.Shape.{shapeOf}
 use Rattle.spec.proofs.Answers.{answer-accepted, answer-fault, answer-many, answer-ragged, few, many, shape-is}
-use Rattle.spec.proofs.Shapes.{constraints-counted, fields-counted, stands-later}
+use Rattle.spec.proofs.Shapes.{total-capped}
 use Rattle.spec.proofs.validate.validate.Statement.{statement}
 use Rattle.spec.proofs.validate.validate.Tie as tie
 
@@ -37,34 +38,33 @@ returns-2 c =
 sound : (c : tie.Else2) → recordsFault (recordsOf (c .before .before .before .before .before .args .file .now)) ≡ none
 sound c = sym (c .before .before .scan .ensures) ∙ ap (λ (n : ℕ). refuse n (c .before .before .scan .result .record)) (c .if2 .left)
 
-heads-requires : tie.Need-heads-requires
-heads-requires c κs = short (c .before .before .before)
+fields-of-requires : tie.Need-fields-of-requires
+fields-of-requires c κs = (short (c .before .before .before), sound c)
 
 total-of-requires : tie.Need-total-of-requires
-total-of-requires c κs = (sound (c .before), c .heads .ensures)
+total-of-requires c κs = search needs
+
+total-is : (c : tie.After-total-of) → c .total-of .result ≡ capped (total (decoded (c .before .before .before .before .before .before .before .args .file .now)))
+total-is c =
+    let f = c .before .fields-of .ensures in
+    c .total-of .ensures ∙ ap₂ (λ (n : ℕ) (k : ℕ). cond (eqb n 0) 0 k) (f .0) (f .1 .1) ∙ total-capped (decoded (c .before .before .before .before .before .before .before .args .file .now))
 
 returns-3 : tie.Need-returns-3
 returns-3 c =
     let file = c .before .before .before .before .before .before .before .before .args .file .now in
-    answer-many file (shapeOf file) (c .before .before .before .before .before .before .if1 .left) (sound (c .before .before .before)) (many (decoded file) (rw (sym (c .before .total-of .ensures)) (c .if3 .taken)))
+    answer-many file (shapeOf file) (c .before .before .before .before .before .before .if1 .left) (sound (c .before .before .before)) (many (decoded file) (rw (sym (total-is (c .before))) (c .if3 .taken)))
 
-stands-at-requires : tie.Need-stands-at-requires
-stands-at-requires c κs = search needs
-
-heads-requires-2 : tie.Need-heads-requires-2
-heads-requires-2 c κs = short (c .before .before .before .before .before .before .before)
-
-stands-at-requires-2 : tie.Need-stands-at-requires-2
-stands-at-requires-2 c κs =
-    let file = c .before .before .before .before .before .before .before .before .before .before .args .file .now in
-    rw (c .before .stands-at .ensures) (stands-later 1 2 (recordsOf file) (omega arith))
+constraints-of-requires : tie.Need-constraints-of-requires
+constraints-of-requires c κs = (short (c .before .before .before .before .before .before), sound (c .before .before .before), c .before .before .fields-of .ensures .1 .0)
 
 returns-4 : tie.Need-returns-4
 returns-4 c =
-    let file = c .before .before .before .before .before .before .before .before .before .before .before .args .file .now in
-    let t = c .before .before .before .before in
-    let f = few (decoded file) (rw (sym (t .total-of .ensures)) (c .before .before .before .if3 .left)) in
-    ap accepted (shape-is file (t .before .heads .ensures ∙ fields-counted file) (c .before .heads2 .ensures ∙ constraints-counted file) (c .before .before .stands-at .ensures) (c .stands-at2 .ensures) (t .total-of .ensures ∙ f .1))
+    let file = c .before .before .before .before .before .before .before .before .before .args .file .now in
+    let t = c .before .before in
+    let f = few (decoded file) (rw (sym (total-is t)) (c .before .if3 .left)) in
+    let fields = t .before .fields-of .ensures in
+    let constraints = c .constraints-of .ensures in
+    ap accepted (shape-is file (fields .0) (constraints .0) (fields .1 .0) (constraints .1) (total-is t ∙ f .1))
     ∙ answer-accepted file (shapeOf file) (t .before .before .before .before .before .if1 .left) (sound (t .before .before)) (f .0)
 
 pub validate-spec : {M : Type 1} → statement M
@@ -74,10 +74,8 @@ validate-spec =
     returns
     scan-requires
     returns-2
-    heads-requires
+    fields-of-requires
     total-of-requires
     returns-3
-    stands-at-requires
-    heads-requires-2
-    stands-at-requires-2
+    constraints-of-requires
     returns-4)
