@@ -7,7 +7,7 @@ mod search;
 use bench_files::Timed;
 
 use common::reading::Engine;
-use common::{oracle, reading};
+use common::oracle;
 use ev::classification::Classification;
 use ev::spec::VerificationSpec;
 use ev::verify::classifier::{Classify, NaiveClassifier};
@@ -189,11 +189,6 @@ fn paged(engine: Engine, file: &[u8]) -> Measured {
     (counts, time)
 }
 
-fn specification(file: &[u8]) -> Option<VerificationSpec> {
-    let judged = reading::judge(file).ok()?;
-    Some(oracle::specification(&judged))
-}
-
 /// The original counts its verdicts.
 fn original_once(
     engine: Engine,
@@ -214,10 +209,10 @@ fn original_once(
 fn original(engine: Engine, file: &[u8], read: bool) -> Measured {
     let constraints = ConstraintRegistry::default();
     let projectors = ProjectorRegistry::default();
-    let ready = specification(file).expect("refused");
+    let ready = oracle::read(file);
     let mut answer = [0usize; 4];
     let time = median(|| {
-        let made = read.then(|| specification(black_box(file)).expect("refused"));
+        let made = read.then(|| oracle::read(black_box(file)));
         let spec = black_box(made.as_ref().unwrap_or(&ready));
         answer = original_once(engine, spec, &constraints, &projectors);
     });

@@ -1,6 +1,6 @@
 //! The original behind a reader of record files.
 
-use crate::reading::{Engine, Group, Rules};
+use crate::reading::{is_member, section, Engine, Group, Rules};
 use crate::record::*;
 use ev::classification::Classification;
 use ev::spec::{
@@ -18,15 +18,15 @@ fn name(field: u8) -> String {
     format!("f{field:02}")
 }
 
-fn field(g: &Group) -> FieldSpec {
+fn field(head: &Record, members: impl Iterator<Item = Record>) -> FieldSpec {
     FieldSpec {
-        range: (g.head.b == 1).then_some((g.head.p, g.head.q)),
-        alignment: (g.head.r != 0).then_some(g.head.r),
-        values: (g.head.b == 2).then(|| g.members.iter().map(|m| m.p).collect()),
+        range: (head.b == 1).then_some((head.p, head.q)),
+        alignment: (head.r != 0).then_some(head.r),
+        values: (head.b == 2).then(|| members.map(|m| m.p).collect()),
     }
 }
 
-fn mapping(members: &[Record]) -> BTreeMap<i64, Vec<i64>> {
+fn mapping(members: impl Iterator<Item = Record>) -> BTreeMap<i64, Vec<i64>> {
     let mut map: BTreeMap<i64, Vec<i64>> = BTreeMap::new();
     for m in members {
         let children = map.entry(m.p).or_default();
@@ -37,11 +37,11 @@ fn mapping(members: &[Record]) -> BTreeMap<i64, Vec<i64>> {
     map
 }
 
-fn constraint(g: &Group) -> ConstraintSpec {
-    let field = name(g.head.a);
-    let (field_a, field_b) = (name(g.head.a), name(g.head.b));
-    let (value, p, q) = (g.head.p, g.head.p, g.head.q);
-    match g.head.kind {
+fn constraint(head: &Record, members: impl Iterator<Item = Record>) -> ConstraintSpec {
+    let field = name(head.a);
+    let (field_a, field_b) = (name(head.a), name(head.b));
+    let (value, p, q) = (head.p, head.p, head.q);
+    match head.kind {
         RANGE => ConstraintSpec::Range {
             field,
             min: p,
@@ -56,17 +56,17 @@ fn constraint(g: &Group) -> ConstraintSpec {
         GE => ConstraintSpec::Ge { field, value },
         ONEOF => ConstraintSpec::Oneof {
             field,
-            values: g.members.iter().map(|m| m.p).collect(),
+            values: members.map(|m| m.p).collect(),
         },
         CROSS => ConstraintSpec::Cross {
             field_a,
             field_b,
-            mapping: mapping(&g.members),
+            mapping: mapping(members),
         },
         ENABLE_MASK => ConstraintSpec::EnableMask {
             field,
             value,
-            disable: g.members.iter().map(|m| name(m.a)).collect(),
+            disable: members.map(|m| name(m.a)).collect(),
         },
         BITMASK => ConstraintSpec::Bitmask {
             field,
@@ -76,9 +76,7 @@ fn constraint(g: &Group) -> ConstraintSpec {
         ENABLE_SET => ConstraintSpec::EnableSet {
             field,
             value,
-            set: g
-                .members
-                .iter()
+            set: members
                 .map(|m| FieldAssignment {
                     field: name(m.a),
                     value: m.p,
@@ -89,19 +87,17 @@ fn constraint(g: &Group) -> ConstraintSpec {
     }
 }
 
-fn projector(g: &Group) -> ProjectorSpec {
-    let field = name(g.head.a);
-    match g.head.kind {
+fn projector(head: &Record, members: impl Iterator<Item = Record>) -> ProjectorSpec {
+    let field = name(head.a);
+    match head.kind {
         SUM => ProjectorSpec::Sum,
         IDENTITY => ProjectorSpec::Identity { field },
         PARITY => ProjectorSpec::Parity { field },
         DECOMPOSE => ProjectorSpec::Decompose {
             field,
-            base: g.head.p,
-            offset_shift: (g.head.q >= 0).then_some(g.head.q as u32),
-            axes: g
-                .members
-                .iter()
+            base: head.p,
+            offset_shift: (head.q >= 0).then_some(head.q as u32),
+            axes: members
                 .map(|m| AxisSpec {
                     radix: (m.p != 0).then_some(m.p),
                     width: m.a.into(),
@@ -113,15 +109,48 @@ fn projector(g: &Group) -> ProjectorSpec {
     }
 }
 
+fn members(g: &Group) -> impl Iterator<Item = Record> + '_ {
+    g.members.iter().copied()
+}
+
 pub fn specification(rules: &Rules) -> VerificationSpec {
-    let named = |f: &Group| (name(f.head.a), field(f));
+    let field = |g: &Group| (name(g.head.a), field(&g.head, members(g)));
+    let constraint = |g: &Group| constraint(&g.head, members(g));
     VerificationSpec {
         target: String::new(),
-        fields: rules.fields.iter().map(named).collect(),
+        fields: rules.fields.iter().map(field).collect(),
         layout: None,
         constraints: rules.constraints.iter().map(constraint).collect(),
-        projector: projector(&rules.projector),
+        projector: projector(&rules.projector.head, members(&rules.projector)),
     }
+}
+
+/// The specification of an accepted file, straight from its bytes; nothing is judged.
+pub fn read(file: &[u8]) -> VerificationSpec {
+    let mut spec = VerificationSpec {
+        target: String::new(),
+        fields: BTreeMap::new(),
+        layout: None,
+        constraints: Vec::new(),
+        projector: ProjectorSpec::Sum,
+    };
+    let mut rest = file;
+    while !rest.is_empty() {
+        let (head, after) = rest.split_at(SIZE);
+        let head = Record::read(head);
+        let many = after.chunks_exact(SIZE).take_while(|r| is_member(r[0]));
+        let (run, next) = after.split_at(many.count() * SIZE);
+        let members = run.chunks_exact(SIZE).map(Record::read);
+        match section(head.kind) {
+            0 => {
+                spec.fields.insert(name(head.a), field(&head, members));
+            }
+            1 => spec.constraints.push(constraint(&head, members)),
+            _ => spec.projector = projector(&head, members),
+        }
+        rest = next;
+    }
+    spec
 }
 
 /// What an engine of the original says of a specification.
@@ -176,22 +205,13 @@ pub fn total(rules: &Rules) -> Option<u128> {
 
 /// Whether the original says that the domain of a field is empty.
 pub fn is_empty(head: &Record) -> bool {
-    let members = Vec::new();
-    field(&Group {
-        head: *head,
-        members,
-    })
-    .is_empty()
+    field(head, std::iter::empty()).is_empty()
 }
 
 /// Which axis of a decompose the original's `validate` faults, counted from 1; 0 for the whole,
 /// none for no fault.
 pub fn bad_axis(head: &Record, members: &[Record]) -> Option<usize> {
-    let group = Group {
-        head: *head,
-        members: members.to_vec(),
-    };
-    let said = projector(&group).validate().err()?;
+    let said = projector(head, members.iter().copied()).validate().err()?;
     let axis = said.strip_prefix("decompose: axis ");
     let digits = axis.and_then(|s| s.split(' ').next());
     Some(digits.map_or(0, |d| d.parse::<usize>().unwrap() + 1))
