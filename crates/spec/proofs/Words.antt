@@ -35,6 +35,10 @@ eight-word s at h = omega (
 pub five-word : (s : List ℕ) (at : ℕ) → at + 5 ≤ length s → fiveAt s at ≡ littleEndian (take 5 (drop at s))
 five-word s at h = omega (arith, digit₀ s at 4 (omega arith), digit s at 1 3 (omega arith), digit s at 2 2 (omega arith), digit s at 3 1 (omega arith), digit s at 4 0 (omega arith))
 
+-- Three bytes, and five as one number.
+pub lead-word : (s : List ℕ) (at : ℕ) → at + 8 ≤ length s → eightAt s at ≡ getD s at 0 + getD s (at + 1) 0 * 0x100 + getD s (at + 2) 0 * 0x1_0000 + littleEndian (take 5 (drop (at + 3) s)) * 0x100_0000
+lead-word s at h = omega (arith, eight-word s at h, digit₀ s at 7 (omega arith), digit s at 1 6 (omega arith), digit s at 2 5 (omega arith))
+
 pub signed-low : (n : ℕ) → n < 2 ^ 63 → signed64 n ≡ pos n
 signed-low n h = rw (ltb-yes n (2 ^ 63) h)
 

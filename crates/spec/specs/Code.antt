@@ -3,7 +3,7 @@ use mathlib.Core.Bool.{Bool, cond, true, false, not, _&&_, _||_}
 use mathlib.Core.List.{List, map}
 use mathlib.Core.Option.{Option}
 use mathlib.Core.Path.{_≡_}
-use Prim.Native.Nat.{ℕ, zero, suc, _+_, _-_, _*_, _/_, _^_, _≤_}
+use Prim.Native.Nat.{ℕ, zero, suc, _+_, _-_, _*_, _/_, _^_, _≤_, _<_}
 use lib.Dec.{eqb, leb, ltb}
 use lib.Signed.{ltZ}
 use Rattle.lists.specs.Integers.{eqZ}
@@ -51,6 +51,16 @@ fiveAt s at = getD s at 0 + getD s (at + 1) 0 * 0x100 + getD s (at + 2) 0 * 0x1_
 -- The record that the code's struct stands for.
 abbrev pub asRecord : code′.Record → Record
 asRecord h = record { code = h .code; kind = kindOf (h .code); a = h .a; b = h .b; padding = h .padding; p = h .p; q = h .q; r = h .r }
+
+-- The first eight bytes of a record, as one number.
+abbrev pub leadOf : Record → ℕ
+leadOf m = m .code + m .a * 0x100 + m .b * 0x1_0000 + m .padding * 0x100_0000
+
+-- The kind's number, a and b are bytes.
+pub record InBytes (m : Record) : Type 0 where
+  pub code-low : m .code < 256
+  pub a-low : m .a < 256
+  pub b-low : m .b < 256
 
 abbrev pub classOf : Kind → Class
 classOf field = Field
@@ -203,13 +213,13 @@ asFault r = refuse (r .number) (r .record)
 abbrev pub plainKind : ℕ → ℕ
 plainKind list = cond (eqb list 1) 2 (cond (eqb list 18) 3 (cond (eqb list 19) 4 0))
 
--- Their a: that of the head where they are values.
-abbrev pub plainA : ℕ → ℕ → ℕ
-plainA kind a = cond (eqb kind 2) a 0
+-- Their first eight bytes: the kind, and the a of the head where they are values.
+abbrev pub plainLead : ℕ → ℕ → ℕ
+plainLead kind a = kind + cond (eqb kind 2) a 0 * 0x100
 
 -- A member of that kind that has no fault.
 abbrev pub isPlain : ℕ → ℕ → Record → Bool
-isPlain kind a m = eqb (m .code) kind && eqb (m .a) a && eqb (m .b) 0 && eqb (m .padding) 0 && (eqZ (m .q) (pos 0) || eqb kind 4) && eqZ (m .r) (pos 0) && onScale (m .p) && onScale (m .q)
+isPlain kind lead m = eqb (leadOf m) lead && (eqZ (m .q) (pos 0) || eqb kind 4) && eqZ (m .r) (pos 0) && onScale (m .p) && onScale (m .q)
 
 -- What a turn leaves.
 abbrev pub afterTurn : List ℕ → ℕ → Turn → Option Refused

@@ -1,7 +1,7 @@
 // Numbers: a list's index and a field's value, powers of two, and the bytes of a file read as numbers.
 ghost use mathlib.Core.Path.{_≡_};
 ghost use Prim.Native.Nat.{_+_, _-_, _≤_, _<_, _^_};
-ghost use lib.ListN.{length};
+ghost use lib.ListN.{getD, length};
 ghost use Rattle.lists.specs.Integers.{signed64};
 ghost use Rattle.spec.specs.Record.{wordAt};
 ghost use Rattle.spec.specs.Code.{eightAt};
@@ -119,9 +119,10 @@ pub fn small(x: u8) -> usize
 }
 
 // Eight bytes, the lowest first.
-fn eight(s: &[u8], at: usize) -> u64
+pub(crate) fn eight(s: &[u8], at: usize) -> u64
     requires { ⌜ at + 8 ≤ length (now s) ⌝ }
-    ensures { λ r. ⌜ r ≡ eightAt (now (s .entry)) at ⌝ }
+    ensures sum { λ r. ⌜ r ≡ eightAt (now (s .entry)) at ⌝ }
+    ensures low { λ r. ⌜ (getD (now (s .entry)) at 0 < 256) × (getD (now (s .entry)) (at + 1) 0 < 256) × (getD (now (s .entry)) (at + 2) 0 < 256) ⌝ }
 {
     wide(s[at])
         + wide(s[at + 1]) * 0x100

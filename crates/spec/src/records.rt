@@ -1,4 +1,5 @@
 // Records, read where they lie in the caller's bytes.
+use crate::numbers::eight;
 use crate::numbers::number_at;
 use crate::numbers::small;
 use crate::numbers::wide;
@@ -6,7 +7,7 @@ ghost use mathlib.Core.Path.{_≡_};
 ghost use Prim.Native.Nat.{_+_, _/_, _≤_, _<_};
 ghost use lib.ListN.{length};
 ghost use Rattle.spec.specs.Record.{recordAt};
-ghost use Rattle.spec.specs.Code.{fiveAt, asRecord};
+ghost use Rattle.spec.specs.Code.{fiveAt, asRecord, leadOf, InBytes};
 
 // A record: its kind's number, a, b, the five bytes that no kind uses as one number, p, q, r.
 pub struct Record {
@@ -79,6 +80,15 @@ fn padding_at(file: &[u8], i: usize) -> u64
     ensures { λ r. ⌜ r ≡ recordAt (now (file .entry)) i .padding ⌝ }
 {
     five(file, i * 32 + 3)
+}
+
+// The first eight bytes of record i, as one number.
+pub(crate) fn lead_at(file: &[u8], i: usize) -> u64
+    requires { ⌜ i < length (now file) / 32 ⌝ }
+    ensures sum { λ r. ⌜ r ≡ leadOf (recordAt (now (file .entry)) i) ⌝ }
+    ensures bytes { λ r. ⌜ InBytes (recordAt (now (file .entry)) i) ⌝ }
+{
+    eight(file, i * 32)
 }
 
 // Record i, counting from 0.

@@ -11,9 +11,9 @@ use crate::kinds::ROWS;
 use crate::kinds::class_of;
 use crate::kinds::is_member;
 use crate::kinds::row_in;
-use crate::plain::plain_a;
 use crate::plain::plain_end;
 use crate::plain::plain_kind;
+use crate::plain::plain_lead;
 use crate::records::Record;
 use crate::records::record_at;
 use crate::refusal::Refusal;
@@ -194,7 +194,7 @@ fn pass_plain(rows: &[u32], file: &[u8], st: State, i: usize) -> usize
     if kind == 0 {
         return i;
     }
-    plain_end(file, i, kind, plain_a(kind, h.a))
+    plain_end(file, i, kind, plain_lead(kind, h.a))
 }
 
 // The records after the first, which is a head.

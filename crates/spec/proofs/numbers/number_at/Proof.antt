@@ -15,7 +15,7 @@ to-signed-requires : tie.Need-to-signed-requires
 to-signed-requires c κs = search needs
 
 returns : tie.Need-returns
-returns c = toZ-ofZ w64 _ (sfits-of (c .to-signed .ok)) ∙ c .to-signed .ensures ∙ ap signed64 (c .before .eight .ensures ∙ eight-word _ _ (c .before .before .before .pre))
+returns c = toZ-ofZ w64 _ (sfits-of (c .to-signed .ok)) ∙ c .to-signed .ensures ∙ ap signed64 (c .before .eight .ensures .0 ∙ eight-word _ _ (c .before .before .before .pre))
 
 pub number-at-spec : {M : Type 1} → statement M
 number-at-spec = tie.close (tie.spec eight-requires to-signed-requires returns)

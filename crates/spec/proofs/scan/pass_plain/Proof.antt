@@ -1,7 +1,8 @@
--- `spec::scan::pass_plain` meets its contract: the kind and the a of plain members are those of the open head's list.
-use mathlib.Core.Path.{_∙_, ap}
+-- `spec::scan::pass_plain` meets its contract: the kind and the first bytes of plain members are those of the open head's list.
+use mathlib.Core.Path.{_∙_, ap, subst}
+use Prim.Native.Nat.{_<_}
 use borrow.Author.Needs.{needs}
-use Rattle.spec.specs.Code.{plainA, plainKind}
+use Rattle.spec.specs.Code.{plainKind, plainLead}
 use Rattle.spec.specs.Kind.{rowOf}
 use Rattle.spec.specs.Record.{Record}
 use Rattle.spec.specs.declared.kinds.Row.{Row}
@@ -21,8 +22,8 @@ plain-kind-requires c κs = search needs
 returns : tie.Need-returns
 returns c = search needs
 
-plain-a-requires : tie.Need-plain-a-requires
-plain-a-requires c κs = search needs
+plain-lead-requires : tie.Need-plain-lead-requires
+plain-lead-requires c κs = search needs
 
 plain-end-requires : tie.Need-plain-end-requires
 plain-end-requires c κs = search needs
@@ -35,10 +36,10 @@ returns-2 c =
     let e = c .plain-end .ensures in (
       e .0,
       e .1,
-      at-plains (s .args .file .now) (s .args .st) (k .plain-kind .result) (c .before .plain-a .result)
+      at-plains (s .args .file .now) (s .args .st) (k .plain-kind .result) (c .before .plain-lead .result) (subst (λ (h : Record). h .a < 256) read (k .before .before .record-at .ensures .1 .0))
           (k .plain-kind .ensures ∙ ap (λ (w : Row). plainKind (w .list)) (k .before .row-in .ensures) ∙ ap (λ (h : Record). plainKind (rowOf (h .kind) (h .b) .list)) read)
           (c .before .before .if1 .left)
-          (c .before .plain-a .ensures ∙ ap (λ (h : Record). plainA (k .plain-kind .result) (h .a)) read)
+          (c .before .plain-lead .ensures ∙ ap (λ (h : Record). plainLead (k .plain-kind .result) (h .a)) read)
           (s .args .i) (c .plain-end .result) (s .pre .0) (e .0) (e .1) (e .2),
     )
 
@@ -50,6 +51,6 @@ pass-plain-spec =
     row-in-requires
     plain-kind-requires
     returns
-    plain-a-requires
+    plain-lead-requires
     plain-end-requires
     returns-2)
