@@ -227,10 +227,10 @@ pub(crate) fn is_worth(members: usize, values: usize) -> bool
 }
 
 // Going by the keys is quicker: they are no more than the values of the parent's list, and found in it by halving or few.
-pub(crate) fn goes_by_keys(parents: usize, rises: bool, members: usize) -> bool
-    ensures { λ r. ⌜ r ≡ (leb members parents && (rises || leb members 64)) ⌝ }
+pub(crate) fn goes_by_keys(parents: usize, rises: bool, keys: usize) -> bool
+    ensures { λ r. ⌜ r ≡ (leb keys parents && (rises || leb keys 24)) ⌝ }
 {
-    (members <= parents) & (rises | (members <= 64))
+    (keys <= parents) & (rises | (keys <= 24))
 }
 
 // The first index whose value is the p of one of the records; the list's length if there is none.

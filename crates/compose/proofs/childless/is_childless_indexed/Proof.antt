@@ -36,35 +36,20 @@ room c rest = omega (arith, many c, length-append (c .index-run .last .1 .0) res
 front : (c : tie.After-index-run) (rest : List ℕ) → Indexed (c .before .before .before .before .before .args .run .now) (take (length (c .before .before .before .before .before .args .run .now) / 32) (c .index-run .last .1 .0 ++ rest))
 front c rest = subst (Indexed (c .before .before .before .before .before .args .run .now)) (sym (take-at (c .index-run .last .1 .0) _ _ (many c))) (c .index-run .ensures)
 
-is-ascending-requires : tie.Need-is-ascending-requires
-is-ascending-requires c κs = search needs
-
-goes-by-keys-requires : tie.Need-goes-by-keys-requires
-goes-by-keys-requires c κs = search needs
-
 array-share-prefix-places : tie.Need-array-share-prefix-places
-array-share-prefix-places c = room (c .before .before .before .before .before) _
+array-share-prefix-places c = room (c .before .before) _
 
-slice-aggregate-keys-childless : tie.Need-slice-aggregate-keys-childless
-slice-aggregate-keys-childless c = sym (length-take-le _ _ (room (c .before .before .before .before .before .before) _))
+slice-aggregate-places-childless : tie.Need-slice-aggregate-places-childless
+slice-aggregate-places-childless c = sym (length-take-le _ _ (room (c .before .before .before) _))
 
-keys-childless-requires : tie.Need-keys-childless-requires
-keys-childless-requires c κs = let s = c .before .before .before .before .before .before .before .before .before .before .before in (λ e. sym (c .before .before .before .is-ascending .ensures) ∙ e, front (c .before .before .before .before .before .before) _, s .pre .1, s .pre .2)
+places-childless-requires : tie.Need-places-childless-requires
+places-childless-requires c κs =
+    let r = c .before .before .before in
+    let s = r .before .before .before .before .before in
+    (front r _, s .pre .1, s .pre .2)
 
 returns : tie.Need-returns
 returns c = search needs
-
-array-share-prefix-places-2 : tie.Need-array-share-prefix-places-2
-array-share-prefix-places-2 c = room (c .before .before .before .before .before) _
-
-slice-aggregate-finds-childless : tie.Need-slice-aggregate-finds-childless
-slice-aggregate-finds-childless c = sym (length-take-le _ _ (room (c .before .before .before .before .before .before) _))
-
-finds-childless-requires : tie.Need-finds-childless-requires
-finds-childless-requires c κs = let s = c .before .before .before .before .before .before .before .before .before .before .before in (front (c .before .before .before .before .before .before) _, s .pre .1, s .pre .2)
-
-returns-2 : tie.Need-returns-2
-returns-2 c = search needs
 
 pub is-childless-indexed-spec : {M : Type 1} → statement M
 is-childless-indexed-spec =
@@ -75,13 +60,7 @@ is-childless-indexed-spec =
     array-borrow-prefix-spare
     slice-aggregate-index-run-2
     index-run-requires
-    is-ascending-requires
-    goes-by-keys-requires
     array-share-prefix-places
-    slice-aggregate-keys-childless
-    keys-childless-requires
-    returns
-    array-share-prefix-places-2
-    slice-aggregate-finds-childless
-    finds-childless-requires
-    returns-2)
+    slice-aggregate-places-childless
+    places-childless-requires
+    returns)
