@@ -496,7 +496,7 @@ fn unordered(order: i64, many: i64) -> Vec<Six> {
     child
 }
 
-/// Lengths at which the code takes another way: tables of 65,536 and of 262,144 cells, maps of 8 and 16 members, maps from 64 values and onto 256, oneofs of 32 items, lists of 64 and of 512 values.
+/// Lengths at which the code takes another way: tables of 65,536 and of 262,144 cells, maps of 8, 16 and 64 members, maps from 64 values and onto 256, oneofs of 32 items, lists of 64 and of 512 values, 24 rows.
 fn lengths() -> Vec<Vec<u8>> {
     let mut all = Vec::new();
     for (keys, children) in [
@@ -541,12 +541,92 @@ fn lengths() -> Vec<Vec<u8>> {
         after.extend([(LE, 0, 0, values - 3, 0, 0), SUMMED]);
         all.push(ranges(&[values], &after));
     }
+    all.extend(few_rows());
+    for order in [-1, 0, 1] {
+        for members in [17, 63, 64, 65, 70, 71] {
+            all.push(keyed(order, members));
+        }
+    }
+    all
+}
+
+/// Rows for which an index of 20 or of 60 members is not worth its making, and one or two more.
+fn few_rows() -> Vec<Vec<u8>> {
+    let mut all = Vec::new();
+    for members in [20, 60] {
+        for rows in 23..=28 {
+            for head in [CROSS, ONEOF] {
+                let member = if head == CROSS { PAIR } else { ITEM };
+                let of = |i| if head == CROSS { i % 4 } else { 0 };
+                let mut after = vec![(head, 0, u8::from(head == CROSS), 0, 0, 0)];
+                after.extend((0..members).map(|i| (member, 0, 0, 1 + i * 7 % 23, of(i), 0)));
+                after.push(SUMMED);
+                all.push(ranges(&[rows, 1], &after));
+            }
+        }
+    }
+    all
+}
+
+/// A map of so many members from 70 values that do not ascend, of which some are no keys.
+fn keyed(order: i64, members: i64) -> Vec<u8> {
+    let mut all = vec![(FIELD, 0, 1, 1, 300, 0)];
+    all.extend(unordered(order, 70));
+    all.push((CROSS, 1, 0, 0, 0, 0));
+    all.extend((0..members).map(|i| (PAIR, 0, 0, 1 + i * 3 % 60, 1 + i * 11 % 310, 0)));
+    // No key is without a child.
+    all.extend((0..20).map(|i| (PAIR, 0, 0, 1 + i * 3, 300 - i, 0)));
+    all.push(SUMMED);
+    file(&all)
+}
+
+/// Lists of twenty members of which one is at fault, or is of another kind.
+fn long_lists() -> Vec<Vec<u8>> {
+    let mut all = Vec::new();
+    let lists: [(Six, Six); 3] = [
+        ((FIELD, 1, 2, 0, 0, 0), (VALUE, 1, 0, 0, 0, 0)),
+        ((ONEOF, 0, 0, 0, 0, 0), (ITEM, 0, 0, 0, 0, 0)),
+        ((CROSS, 0, 1, 0, 0, 0), (PAIR, 0, 0, 0, 0, 0)),
+    ];
+    for (head, (kind, a, ..)) in lists {
+        let fields: &[i64] = if head.0 == CROSS { &[4, 4] } else { &[4] };
+        for at in [0, 9, 19] {
+            for other in [
+                (kind, a + 1, 0, 3, 0, 0),
+                (kind, a, 1, 3, 0, 0),
+                (kind, a, 0, EDGE, 0, 0),
+                (kind, a, 0, -EDGE, 0, 0),
+                (kind, a, 0, EDGE + 1, 0, 0),
+                (kind, a, 0, -EDGE - 1, 0, 0),
+                (kind, a, 0, 3, 1, 0),
+                (kind, a, 0, 3, EDGE, 0),
+                (kind, a, 0, 3, EDGE + 1, 0),
+                (kind, a, 0, 3, -EDGE - 1, 0),
+                (kind, a, 0, 3, 0, 1),
+                (kind, a, 0, 3, 0, i64::MIN),
+                (VALUE, 0, 0, 3, 0, 0),
+                (ITEM, 0, 0, 3, 0, 0),
+                (PAIR, 0, 0, 3, 0, 0),
+                (KEY, 0, 0, 3, 0, 0),
+                (DISABLE, 0, 0, 0, 0, 0),
+            ] {
+                let mut after = vec![head];
+                after.extend((0..20).map(|i| match i {
+                    i if i == at => other,
+                    _ => (kind, a, 0, i, 0, 0),
+                }));
+                after.push(SUMMED);
+                all.push(ranges(fields, &after));
+            }
+        }
+    }
     all
 }
 
 pub fn boundaries() -> Vec<Vec<u8>> {
     let mut all = bench();
     all.extend(lengths());
+    all.extend(long_lists());
     all.extend(scales());
     all.extend(packings());
     all.extend(sizes());
