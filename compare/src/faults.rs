@@ -570,12 +570,12 @@ fn few_rows() -> Vec<Vec<u8>> {
 
 /// A map of so many members from 70 values that do not ascend, of which some are no keys.
 fn keyed(order: i64, members: i64) -> Vec<u8> {
-    let mut all = vec![(FIELD, 0, 1, 1, 300, 0)];
+    let mut all = vec![(FIELD, 0, 1, 1, 280, 0)];
     all.extend(unordered(order, 70));
     all.push((CROSS, 1, 0, 0, 0, 0));
-    all.extend((0..members).map(|i| (PAIR, 0, 0, 1 + i * 3 % 60, 1 + i * 11 % 310, 0)));
+    all.extend((0..members).map(|i| (PAIR, 0, 0, 1 + i * 3 % 60, 1 + i * 11 % 290, 0)));
     // No key is without a child.
-    all.extend((0..20).map(|i| (PAIR, 0, 0, 1 + i * 3, 300 - i, 0)));
+    all.extend((0..20).map(|i| (PAIR, 0, 0, 1 + i * 3, 280 - i, 0)));
     all.push(SUMMED);
     file(&all)
 }

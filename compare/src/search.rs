@@ -323,13 +323,15 @@ fn shortest(times: usize, mut call: impl FnMut()) -> f64 {
     best
 }
 
-/// Tries files for so many seconds. Prints those on which count takes longer than the original does with its reading, and how many there are.
+/// Tries files for so many seconds. Prints those on which count takes longer than the original does with its reading, and for each kind how many there are, also without its reading and with judging.
 pub fn search(seconds: f64, seed: u64) {
     let constraints = ConstraintRegistry::default();
     let projectors = ProjectorRegistry::default();
     let start = Instant::now();
-    let mut of = [[0; 3]; KINDS.len()];
-    let mut lowest = [[f64::INFINITY; 2]; KINDS.len()];
+    let mut tried = [0; KINDS.len()];
+    // With its specification ready; with its reading; with its reading and judging.
+    let mut slower = [[0; 3]; KINDS.len()];
+    let mut lowest = [[f64::INFINITY; 3]; KINDS.len()];
     let mut next = seed << 32;
     while start.elapsed().as_secs_f64() < seconds {
         next += 1;
@@ -362,23 +364,26 @@ pub fn search(seconds: f64, seed: u64) {
                     let spec = oracle::read(&bytes);
                     original_once(engine, &spec, &constraints, &projectors);
                 });
-                (theirs / ours, reading / ours, ours)
+                let judging = shortest(times, || {
+                    let rules = reading::judge(&bytes).expect("refused");
+                    let spec = oracle::specification(&rules);
+                    original_once(engine, &spec, &constraints, &projectors);
+                });
+                ([theirs / ours, reading / ours, judging / ours], ours)
             };
-            let [tried, slower, slower_read] = &mut of[kind];
-            *tried += 1;
-            if compared(1).0 >= 2.0 {
+            tried[kind] += 1;
+            if compared(1).0[0] >= 2.0 {
                 continue;
             }
-            let (plain, read, ours) = compared(9);
-            lowest[kind][0] = lowest[kind][0].min(plain);
-            lowest[kind][1] = lowest[kind][1].min(read);
-            if plain < 1.0 {
-                *slower += 1;
+            let (ratios, ours) = compared(9);
+            for (side, ratio) in ratios.into_iter().enumerate() {
+                lowest[kind][side] = lowest[kind][side].min(ratio);
+                slower[kind][side] += usize::from(ratio < 1.0);
             }
-            if read < 1.0 {
-                *slower_read += 1;
+            if ratios[1] < 1.0 {
+                let [plain, read, judged] = ratios;
                 println!(
-                    "{}: {read:.2} ({plain:.2} without its reading), {:.0} us, {word}, {} records, {} verdicts: {what}",
+                    "{}: {plain:.2}, with its reading {read:.2}, judging too {judged:.2}, {:.0} us, {word}, {} records, {} verdicts: {what}",
                     KINDS[kind].0,
                     ours / 1e3,
                     bytes.len() / 32,
@@ -387,11 +392,11 @@ pub fn search(seconds: f64, seed: u64) {
             }
         }
     }
-    println!("| files | tried | the original faster | lowest | its reading counted too | lowest |");
-    println!("|---|---|---|---|---|---|");
-    for (((kind, _), [tried, slower, slower_read]), [low, low_read]) in
-        KINDS.iter().zip(of).zip(lowest)
-    {
-        println!("| {kind} | {tried} | {slower} | {low:.2} | {slower_read} | {low_read:.2} |");
+    println!("| files | tried | the original faster | lowest | its reading counted | lowest | its judging too | lowest |");
+    println!("|---|---|---|---|---|---|---|---|");
+    for (k, (kind, _)) in KINDS.iter().enumerate() {
+        let sides = slower[k].iter().zip(lowest[k]);
+        let cells: String = sides.map(|(n, low)| format!(" {n} | {low:.2} |")).collect();
+        println!("| {kind} | {} |{cells}", tried[k]);
     }
 }
