@@ -496,25 +496,28 @@ fn unordered(order: i64, many: i64) -> Vec<Six> {
     child
 }
 
-/// Lengths at which the code takes another way: tables of 65,536 and of 262,144 cells, maps of 8, 16 and 64 members, maps from 64 values and onto 256, oneofs of 32 items, lists of 64 and of 512 values, 24 rows.
+/// Lengths at which the code takes another way: tables of 16,384 and of 262,144 cells, maps of 8, 16 and 32 members, maps from 32 values and onto 32, oneofs of 32 items, lists of 64 and of 512 values, 20 rows; members in no order, far apart or near; values of a list that have one remainder.
 fn lengths() -> Vec<Vec<u8>> {
     let mut all = Vec::new();
     for (keys, children) in [
+        (108, 128),
+        (108, 129),
         (236, 256),
-        (236, 257),
         (280, 300),
         (492, 512),
         (492, 513),
         (44, 40),
         (45, 40),
-        (3, 256),
-        (3, 257),
+        (12, 40),
+        (13, 40),
+        (3, 32),
+        (3, 33),
     ] {
         all.push(mapped(keys, children, &[(FIELD, 1, 1, 1, children, 0)]));
     }
     // The same over lists that do not ascend, or that repeat.
     for order in [-1, 0, 1] {
-        for (keys, children) in [(180, 400), (505, 500), (44, 40), (45, 40), (3, 257)] {
+        for (keys, children) in [(180, 400), (505, 500), (12, 40), (13, 40), (44, 40), (45, 40), (3, 33)] {
             all.push(mapped(keys, children, &unordered(order, children)));
         }
     }
@@ -542,8 +545,9 @@ fn lengths() -> Vec<Vec<u8>> {
         all.push(ranges(&[values], &after));
     }
     all.extend(few_rows());
+    all.extend(mixed());
     for order in [-1, 0, 1] {
-        for members in [17, 63, 64, 65, 70, 71] {
+        for members in [12, 13, 17, 63, 64, 65, 70, 71] {
             all.push(keyed(order, members));
         }
     }
@@ -554,7 +558,7 @@ fn lengths() -> Vec<Vec<u8>> {
 fn few_rows() -> Vec<Vec<u8>> {
     let mut all = Vec::new();
     for members in [20, 60] {
-        for rows in 23..=28 {
+        for rows in 19..=22 {
             for head in [CROSS, ONEOF] {
                 let member = if head == CROSS { PAIR } else { ITEM };
                 let of = |i| if head == CROSS { i % 4 } else { 0 };
@@ -562,6 +566,31 @@ fn few_rows() -> Vec<Vec<u8>> {
                 after.extend((0..members).map(|i| (member, 0, 0, 1 + i * 7 % 23, of(i), 0)));
                 after.push(SUMMED);
                 all.push(ranges(&[rows, 1], &after));
+            }
+        }
+    }
+    all
+}
+
+/// Maps whose members lie in no order: as many as are ordered by counting and one fewer, their values near each other, as far apart as a word can say and further, or all with one remainder.
+fn mixed() -> Vec<Vec<u8>> {
+    let mut all = Vec::new();
+    for members in [31, 32, 33, 60, 300] {
+        for far in [1, 255, 256, 16_381, 1 << 47, 1 << 48, EDGE / 40] {
+            for below in [0, 1] {
+                // 40 keys and 30 of 35 children, above 0 or on both sides of it.
+                let value = |i: i64, many: i64| (i - below * many / 2) * far;
+                let mut form = vec![(FIELD, 0, 2, 0, 0, 0)];
+                form.extend((0..40).map(|i| (VALUE, 0, 0, value(i * 7 % 40, 40), 0, 0)));
+                form.push((FIELD, 1, 2, 0, 0, 0));
+                form.extend((0..35).map(|i| (VALUE, 1, 0, value(i * 11 % 35, 30), 0, 0)));
+                form.push((CROSS, 0, 1, 0, 0, 0));
+                form.extend((0..members).map(|i| {
+                    let (key, child) = (i * 17 % 40, i * 13 % 30);
+                    (PAIR, 0, 0, value(key, 40), value(child, 30), 0)
+                }));
+                form.push(SUMMED);
+                all.push(file(&form));
             }
         }
     }

@@ -160,27 +160,25 @@ fn any(m: &mut Maker) {
     }
 }
 
-/// A file of one map, of whose child values some, or all but one of each key, are not in the child's list.
-fn one_map(m: &mut Maker) {
-    let rows = m.up_to(ROWS / 10);
-    let parents = m.up_to(rows.min(1_000));
-    m.field(parents);
-    let children = (rows / parents).min(1_000);
-    m.field(children);
+/// A map from the last field but one to the last, of whose child values some, or all but one of each key, are not in the child's list.
+fn last_map(m: &mut Maker) {
+    let child = m.values.len() - 1;
+    let parent = child - 1;
+    let (parents, children) = (m.values[parent].len(), m.values[child].len());
     let keys = m.up_to(parents.min(m.room()));
     let each = m.up_to(m.room() / keys);
     let foreign = [0, 50, 90, 100][m.random.below(4)];
     let width = [2, 20, 100_000][m.random.below(3)];
     let mut members = Vec::new();
-    for key in m.values[0].clone().into_iter().take(keys) {
-        let one = m.value(1);
+    for key in m.values[parent].clone().into_iter().take(keys) {
+        let one = m.value(child);
         members.push((key, one));
         for _ in 1..each {
-            let mut child = m.value(1);
+            let mut other = m.value(child);
             if m.random.chance(foreign) {
-                child += (1 + m.random.below(width)) as i64 * children as i64;
+                other += (1 + m.random.below(width)) as i64 * children as i64;
             }
-            members.push((key, child));
+            members.push((key, other));
         }
     }
     match m.random.below(4) {
@@ -189,11 +187,32 @@ fn one_map(m: &mut Maker) {
         2 => members.reverse(),
         _ => {}
     }
-    m.put(CROSS, 0, 1, 0, 0);
+    m.put(CROSS, parent, child, 0, 0);
     for (p, q) in members {
         m.put(PAIR, 0, 0, p, q);
     }
     m.what += &format!("map, {keys} keys of {each}, {foreign} % not in the list; ");
+}
+
+/// A file of such a map and no field before its parent.
+fn one_map(m: &mut Maker) {
+    let rows = m.up_to(ROWS / 10);
+    let parents = m.up_to(rows.min(1_000));
+    m.field(parents);
+    m.field((rows / parents).min(1_000));
+    last_map(m);
+}
+
+/// A file of such a map, for each value of a field before its parent.
+fn under_field(m: &mut Maker) {
+    let rows = m.up_to(ROWS);
+    let lead = m.up_to(rows.min(3_000));
+    m.field(lead);
+    let rows = rows / lead;
+    let parents = m.up_to(rows.min(600));
+    m.field(parents);
+    m.field((rows / parents).min(600));
+    last_map(m);
 }
 
 /// A file of two fields and of constraints that force values, in the list or not.
@@ -249,6 +268,22 @@ fn few(m: &mut Maker) {
     }
 }
 
+/// A file of many short fields and many constraints.
+fn many(m: &mut Maker) {
+    let fields = 5 + m.random.below(12);
+    let mut rows = 1;
+    for _ in 0..fields {
+        let length = 1 + m.random.below(6);
+        let fits = rows * length <= VERDICTS;
+        rows *= if fits { length } else { 1 };
+        m.field(if fits { length } else { 1 });
+    }
+    let most = m.up_to(60);
+    for _ in 0..most {
+        m.constraint();
+    }
+}
+
 /// A file of one or two fields under several oneofs.
 fn oneofs(m: &mut Maker) {
     let rows = m.up_to(ROWS);
@@ -288,13 +323,15 @@ fn two_maps(m: &mut Maker) {
 
 type Make = fn(&mut Maker);
 
-const KINDS: [(&str, Make); 7] = [
+const KINDS: [(&str, Make); 9] = [
     ("any", any),
     ("one map", one_map),
+    ("under a field", under_field),
     ("two maps", two_maps),
     ("forced", forced),
     ("filters", filters),
     ("few rows", few),
+    ("many fields", many),
     ("oneofs", oneofs),
 ];
 

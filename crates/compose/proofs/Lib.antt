@@ -9,6 +9,7 @@ pub mod Prune
 pub mod Turns
 pub mod Rows
 pub mod Sieved
+pub mod Slots
 pub mod Walk
 pub mod Found
 pub mod Stuck

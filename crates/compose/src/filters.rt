@@ -72,7 +72,7 @@ fn compact(list: &mut [i64], code: u8, p: i64, q: i64, run: &[u8]) -> usize
     w
 }
 
-// The same of head h. For a range and a bitmask the compiler makes loops of their own, which do not ask for the kind again.
+// The same of head h. For a range, a oneof and a bitmask the compiler makes loops of their own, which do not ask for the kind again.
 fn compact_met(list: &mut [i64], h: Record, run: &[u8]) -> usize
     requires { ⌜ maskIn (kindOf (h .code)) (h .p) ≡ true ⌝ }
     ensures count { λ r. ⌜ r ≡ length (filter (passes (testIn (kindOf (h .code)) (h .p) (h .q) (recordsOf (now (run .entry))))) (now (list .entry))) ⌝ }
@@ -81,6 +81,9 @@ fn compact_met(list: &mut [i64], h: Record, run: &[u8]) -> usize
     let code = h.code;
     if code == 10 {
         return compact(list, 10, h.p, h.q, run);
+    }
+    if code == 18 {
+        return compact(list, 18, h.p, h.q, run);
     }
     if code == 21 {
         return compact(list, 21, h.p, h.q, run);

@@ -13,7 +13,7 @@ ghost use mathlib.Core.Path.{_≡_};
 ghost use mathlib.Core.Bool.{true, _&&_, _||_};
 ghost use mathlib.Core.List.{map};
 ghost use Prim.Native.Nat.{_-_, _≤_};
-ghost use lib.Dec.{leb};
+ghost use lib.Dec.{leb, ltb};
 ghost use lib.IntN.{pos};
 ghost use lib.Signed.{leZ};
 ghost use lib.ListN.{length, getD};
@@ -223,7 +223,14 @@ pub(crate) fn has_value(list: &[i64], ascends: bool, sieve: &[u8], w: Value) -> 
 pub(crate) fn is_worth(members: usize, values: usize) -> bool
     ensures { λ r. ⌜ (r ≡ true → members ≤ 2048) ⌝ }
 {
-    (members <= 2048) & (64 < values) & ((16 < members) | (512 < values))
+    (members <= 2048) & (32 < values) & ((16 < members) | (512 < values))
+}
+
+// So many members are worth a sieve or slots of a list of so many values, among which they are looked for.
+pub(crate) fn is_worth_sieve(members: usize, values: usize) -> bool
+    ensures { λ r. ⌜ r ≡ (ltb 16 members && ltb 32 values) ⌝ }
+{
+    (16 < members) & (32 < values)
 }
 
 // Going by the keys is quicker: they are no more than the values of the parent's list, and found in it by halving or few.

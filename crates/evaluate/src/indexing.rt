@@ -44,11 +44,11 @@ pub fn has_long(file: &[u8], heads: &[usize]) -> bool
     false
 }
 
-// So many rows are worth an index: more than 24, and one more for each 32 records.
-pub fn index_pays(file: &[u8], rows: usize) -> bool
-    ensures { λ r. ⌜ r ≡ ltb (24 + length (now (file .entry)) / 1024) rows ⌝ }
+// So many rows are worth an index.
+pub fn index_pays(rows: usize) -> bool
+    ensures { λ r. ⌜ r ≡ ltb 20 rows ⌝ }
 {
-    24 + file.len() / 1024 < rows
+    20 < rows
 }
 
 // Indexes the members of the head at a record.

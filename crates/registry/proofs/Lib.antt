@@ -10,3 +10,4 @@ pub mod Ordered
 pub mod Looked
 pub mod Halves
 pub mod Alike
+pub mod Tried

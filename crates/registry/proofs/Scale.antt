@@ -50,10 +50,11 @@ below-of (negsuc n) e f =
 -- a v not below 0
 pub record Natural (v : ℤ) : Type 0 where
   pub cast : T (nonNeg v) × Fits w64 (natAbs v)
+  pub small : natAbs v < 9223372036854775808
   pub whole : v ≡ pos (natAbs v)
 
 pub natural-of : (v : ℤ) → ltZ v (pos 0) ≡ false → SFits w64 v → Natural v
-natural-of (pos n) e f = record { cast = natural-fits (pos n) refl f; whole = refl }
+natural-of (pos n) e f = let h = f .sfits in record { cast = natural-fits (pos n) refl f; small = omega arith; whole = refl }
 natural-of (negsuc n) e f = absurd (true≢false e)
 
 -- ---- differences

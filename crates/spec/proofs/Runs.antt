@@ -1,5 +1,5 @@
 -- Runs of records: the part of a file that they are, and the turns of the loops over them.
-use mathlib.Core.Bool.{Bool, _||_, false, true}
+use mathlib.Core.Bool.{Bool, _&&_, _||_, false, true}
 use mathlib.Core.List.{List, [], _∷_, map}
 use mathlib.Core.Path.{_∙_, _≡_, ap, ap₂, refl, sym}
 use Prim.Native.Nat.{_*_, _+_, _-_, _/_, _<_, _≤_, suc, zero, ℕ}
@@ -10,11 +10,11 @@ use lib.ListN.{drop, drop-of-length-le, length, length-append, length-drop, leng
 use lib.Seq.{drop-drop, take-at, take-nil, take-take}
 use Rattle.lists.specs.Integers.{elemZ, eqZ}
 use Rattle.lists.proofs.Lists.{any-append, map-append}
-use Rattle.lists.proofs.Tests.{or-assoc, or-false}
+use Rattle.lists.proofs.Tests.{and-split, or-assoc, or-false}
 use Rattle.spec.specs.Code.{psOf}
-use Rattle.spec.specs.Kind.{isMember}
+use Rattle.spec.specs.Kind.{isMember, kindOf}
 use Rattle.spec.specs.Record.{Record, chunks, groups, memberRun, partsOf, recordAt, recordOf, recordsOf}
-use Rattle.spec.proofs.Fields.{length-records, records-from}
+use Rattle.spec.proofs.Fields.{kind-of, length-records, records-from}
 use Rattle.spec.proofs.Groups.{flat, records-flat}
 
 drop-take : (k n m : ℕ) (l : List ℕ) → k + n ≡ m → drop k (take m l) ≡ take n (drop k l)
@@ -66,6 +66,23 @@ module _ (file : List ℕ) where
 
   pub run-more : (i : ℕ) → i < length file / 32 → isMember (recordAt file i .kind) ≡ true → runLength i ≡ suc (runLength (i + 1))
   run-more i h t = rw (add-one, records-from file i h) (rw t)
+
+  abbrev member : ℕ → Bool
+  member i = isMember (kindOf (recordAt file i .code))
+
+  more : (i : ℕ) → i < length file / 32 → member i ≡ true → runLength i ≡ suc (runLength (i + 1))
+  more i h t = run-more i h (ap isMember (kind-of file i) ∙ t)
+
+  -- four members
+  pub run-four : (i : ℕ) → i + 4 ≤ length file / 32 → (isMember (kindOf (recordAt file i .code)) && isMember (kindOf (recordAt file (i + 1) .code)) && isMember (kindOf (recordAt file (i + 2) .code)) && isMember (kindOf (recordAt file (i + 3) .code))) ≡ true → i + 4 + runLength (i + 4) ≡ i + runLength i
+  run-four i h t =
+      let a = and-split (member i && member (i + 1) && member (i + 2)) (member (i + 3)) t in
+      let b = and-split (member i && member (i + 1)) (member (i + 2)) (a .0) in
+      let d = and-split (member i) (member (i + 1)) (b .0) in
+      let x : runLength (i + 1 + 1) ≡ runLength (i + 2) = let e : i + 1 + 1 ≡ i + 2 = omega arith in ap runLength e in
+      let y : runLength (i + 2 + 1) ≡ runLength (i + 3) = let e : i + 2 + 1 ≡ i + 3 = omega arith in ap runLength e in
+      let z : runLength (i + 3 + 1) ≡ runLength (i + 4) = let e : i + 3 + 1 ≡ i + 4 = omega arith in ap runLength e in
+      omega (arith, more i (omega arith) (d .0), more (i + 1) (omega arith) (d .1), more (i + 2) (omega arith) (b .1), more (i + 3) (omega arith) (a .1), x, y, z)
 
   pub run-stop : (i : ℕ) → i < length file / 32 → isMember (recordAt file i .kind) ≡ false → runLength i ≡ 0
   run-stop i h t = rw (records-from file i h) (rw t)

@@ -6,14 +6,15 @@ use crate::records::Record;
 use crate::records::code_at;
 use crate::records::p_at;
 ghost use mathlib.Core.Path.{_≡_};
-ghost use mathlib.Core.Bool.{true, false};
+ghost use mathlib.Core.Bool.{true, false, _&&_};
 ghost use Prim.Native.Nat.{suc, _+_, _-_, _*_, _/_, _≤_, _<_};
 ghost use lib.IntN.{pos, natAbs, _+ℤ_};
 ghost use lib.Signed.{leZ};
 ghost use lib.ListN.{length, getD, take, drop};
 ghost use Rattle.lists.specs.Integers.{elemZ};
 ghost use Rattle.spec.specs.Domain.{firstMultiple, stepOf, onStep, domain, allows};
-ghost use Rattle.spec.specs.Record.{fieldBy, recordsOf, memberRun};
+ghost use Rattle.spec.specs.Kind.{isMember, kindOf};
+ghost use Rattle.spec.specs.Record.{fieldBy, memberRun, recordAt, recordsOf};
 ghost use Rattle.spec.specs.Refusal.{onScale, negative};
 ghost use Rattle.spec.specs.Code.{asRecord, psOf, domainLength, InScale, InRise, IsRise};
 
@@ -133,13 +134,40 @@ pub fn allows_value(h: Record, values: &[u8], v: Value) -> bool
     on_step(v, h.r)
 }
 
+// The four records from i on are members.
+fn are_members(file: &[u8], i: usize) -> bool
+    requires { ⌜ i + 4 ≤ length (now file) / 32 ⌝ }
+    ensures { λ r. ⌜ r ≡ (isMember (kindOf (recordAt (now (file .entry)) i .code)) && isMember (kindOf (recordAt (now (file .entry)) (i + 1) .code)) && isMember (kindOf (recordAt (now (file .entry)) (i + 2) .code)) && isMember (kindOf (recordAt (now (file .entry)) (i + 3) .code))) ⌝ }
+{
+    is_member(code_at(file, i))
+        & is_member(code_at(file, i + 1))
+        & is_member(code_at(file, i + 2))
+        & is_member(code_at(file, i + 3))
+}
+
+// Goes past members, by four.
+fn past_members(file: &[u8], from: usize) -> usize
+    requires { ⌜ from ≤ length (now file) / 32 ⌝ }
+    ensures { λ r. ⌜ (r ≤ length (now (file .entry)) / 32) × (r + length (memberRun (drop r (recordsOf (now (file .entry))))) ≡ from + length (memberRun (drop from (recordsOf (now (file .entry)))))) ⌝ }
+{
+    let n = file.len() / 32;
+    let mut i = from;
+    while i + 4 <= n {
+        if !are_members(file, i) {
+            return i;
+        }
+        i += 4;
+    }
+    i
+}
+
 // The first record after head that is no member.
 pub(crate) fn members_end(file: &[u8], head: usize) -> usize
     requires { ⌜ head < length (now file) / 32 ⌝ }
     ensures { λ r. ⌜ r ≡ head + 1 + length (memberRun (drop (suc head) (recordsOf (now (file .entry))))) ⌝ }
 {
     let n = file.len() / 32;
-    let mut i = head + 1;
+    let mut i = past_members(file, head + 1);
     while i < n {
         if !is_member(code_at(file, i)) {
             return i;

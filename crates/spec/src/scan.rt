@@ -182,7 +182,7 @@ fn close(file: &[u8], st: State) -> Refusal
     }
 }
 
-// Passes plain members from record i on: what is left to judge is the same.
+// Passes plain members from record i on: what is left to judge is the same. For pairs the compiler makes a loop of its own.
 fn pass_plain(rows: &[u32], file: &[u8], st: State, i: usize) -> usize
     requires { ⌜ (st .head < i) × (i ≤ length (now file) / 32) × (now rows ≡ tableWords) ⌝ }
     ensures { λ r. ⌜ (i ≤ r) × (r ≤ length (now (file .entry)) / 32) × (leftAt (now (file .entry)) st i ≡ leftAt (now (file .entry)) st r) ⌝ }
@@ -194,7 +194,11 @@ fn pass_plain(rows: &[u32], file: &[u8], st: State, i: usize) -> usize
     if kind == 0 {
         return i;
     }
-    plain_end(file, i, kind, plain_lead(kind, h.a))
+    let lead = plain_lead(kind, h.a);
+    if kind == 4 {
+        return plain_end(file, i, 4, lead);
+    }
+    plain_end(file, i, kind, lead)
 }
 
 // The records after the first, which is a head.

@@ -18,8 +18,8 @@ is-childless-by-requires c κs = (λ e. sym (c .before .before .is-ascending .en
 returns : tie.Need-returns
 returns c = search needs
 
-is-worth-requires : tie.Need-is-worth-requires
-is-worth-requires c κs = search needs
+is-worth-sieve-requires : tie.Need-is-worth-sieve-requires
+is-worth-sieve-requires c κs = search needs
 
 is-childless-sieved-requires : tie.Need-is-childless-sieved-requires
 is-childless-sieved-requires c κs = search needs
@@ -44,7 +44,7 @@ is-childless-map-spec =
     slice-aggregate-is-childless-by
     is-childless-by-requires
     returns
-    is-worth-requires
+    is-worth-sieve-requires
     is-childless-sieved-requires
     returns-2
     slice-aggregate-is-childless-by-2

@@ -52,16 +52,32 @@ returns-2 c =
     subst (Met (s .args .list .now) (s .args .run .now) (h .p) (h .q) (f .last .0) (f .result)) (sym (c .before .before .before .before .before .if2 .taken)) (rw (toZ-ofZ w64 (h .p) (sfits-of (g .1 .1 .1 .1 .0 .1)), toZ-ofZ w64 (h .q) (sfits-of (g .1 .1 .1 .1 .1 .0 .1))) at (f .ensures))
 
 compact-requires-3 : tie.Need-compact-requires-3
-compact-requires-3 c κs = search needs
+compact-requires-3 c κs =
+    let s = c .before .before .before .before .before .before .before in
+    rw (toZ-ofZ w64 (s .args .h .p) (sfits-of (c .struct-told6 .given .1 .1 .1 .1 .0 .1))) (subst (λ (k : ℕ). maskIn (kindOf k) (s .args .h .p) ≡ true) (c .before .before .before .if3 .taken) (s .pre))
 
 same-length-3 : tie.Need-same-length-3
 same-length-3 c = search needs
 
 returns-3 : tie.Need-returns-3
 returns-3 c =
-    let h = c .before .before .before .before .before .before .before .before .args .h in
+    let s = c .before .before .before .before .before .before .before .before .before in
+    let h = s .args .h in
     let f = c .before .compact3 in
     let g = c .before .before .struct-told6 .given in
+    subst (Met (s .args .list .now) (s .args .run .now) (h .p) (h .q) (f .last .0) (f .result)) (sym (c .before .before .before .before .before .if3 .taken)) (rw (toZ-ofZ w64 (h .p) (sfits-of (g .1 .1 .1 .1 .0 .1)), toZ-ofZ w64 (h .q) (sfits-of (g .1 .1 .1 .1 .1 .0 .1))) at (f .ensures))
+
+compact-requires-4 : tie.Need-compact-requires-4
+compact-requires-4 c κs = search needs
+
+same-length-4 : tie.Need-same-length-4
+same-length-4 c = search needs
+
+returns-4 : tie.Need-returns-4
+returns-4 c =
+    let h = c .before .before .before .before .before .before .before .before .before .args .h in
+    let f = c .before .compact4 in
+    let g = c .before .before .struct-told8 .given in
     rw (toZ-ofZ w64 (h .p) (sfits-of (g .1 .1 .1 .1 .0 .1)), toZ-ofZ w64 (h .q) (sfits-of (g .1 .1 .1 .1 .1 .0 .1))) at (f .ensures)
 
 pub compact-met-spec : {M : Type 1} → statement M
@@ -76,4 +92,7 @@ compact-met-spec =
     returns-2
     compact-requires-3
     same-length-3
-    returns-3)
+    returns-3
+    compact-requires-4
+    same-length-4
+    returns-4)

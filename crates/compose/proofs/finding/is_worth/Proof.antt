@@ -9,7 +9,7 @@ returns : tie.Need-returns
 returns c e =
     let m = c .args .members in
     let v = c .args .values in
-    yes-le m 2048 (and-split (leb m 2048) (ltb 64 v) (and-split (leb m 2048 && ltb 64 v) (ltb 16 m || ltb 512 v) e .0) .0)
+    yes-le m 2048 (and-split (leb m 2048) (ltb 32 v) (and-split (leb m 2048 && ltb 32 v) (ltb 16 m || ltb 512 v) e .0) .0)
 
 pub is-worth-spec : {M : Type 1} → statement M
 is-worth-spec = tie.close (tie.spec returns)
