@@ -37,7 +37,7 @@ impl Maker {
         (n as f64).powf(share).round() as usize
     }
 
-    /// A range, or so many listed values that rise, fall or lie in no order; multiples of one number.
+    /// A range, or so many listed values that rise, fall or lie in no order: multiples of one number, or numbers far apart.
     fn field(&mut self, length: usize) {
         let f = self.values.len();
         let form = self.random.below(4);
@@ -47,7 +47,14 @@ impl Maker {
             self.what += &format!("range {length}; ");
         } else {
             let step = [1, 1, 1_000, 65_536][self.random.below(4)];
-            values.iter_mut().for_each(|v| *v *= step);
+            let far = self.random.chance(20);
+            for v in &mut values {
+                *v = if far {
+                    (*v << 40) + self.random.below(1 << 40) as i64
+                } else {
+                    *v * step
+                };
+            }
             match form {
                 1 => {}
                 2 => values.reverse(),
@@ -58,7 +65,8 @@ impl Maker {
                 self.put(VALUE, f, 0, *v, 0);
             }
             let order = ["", "rising", "falling", "mixed"][form];
-            self.what += &format!("{length} {order}; ");
+            let apart = if far { ", far apart" } else { "" };
+            self.what += &format!("{length} {order}{apart}; ");
         }
         self.values.push(values);
     }
@@ -168,7 +176,7 @@ fn last_map(m: &mut Maker) {
     let keys = m.up_to(parents.min(m.room()));
     let each = m.up_to(m.room() / keys);
     let foreign = [0, 50, 90, 100][m.random.below(4)];
-    let width = [2, 20, 100_000][m.random.below(3)];
+    let width = [2, 20, 100_000, 1 << 40][m.random.below(4)];
     let mut members = Vec::new();
     for key in m.values[parent].clone().into_iter().take(keys) {
         let one = m.value(child);
