@@ -83,7 +83,7 @@ sample_and_other engine = join_multiplies engine sample other 672 (sample_accept
 -- Verdict (4 − 1) × 2 + 1 comes from the bench file's fourth, place 5, and the other's first, place 5: the first file's constraint counts, 5 + 2.
 seventh_place : (nth (verdicts structural (decoded (join_bytes sample other))) 7).place ≡ 7
 unfolding evaluating joining
-seventh_place = ((sample_and_other structural).each 4 1 (lit< tt, lit< tt) (lit< tt, lit< tt)).place.first-constraint (lit< tt) (λ a. let h = a.1 in absurd (omega arith))
+seventh_place = ((sample_and_other structural).each 4 1 (lit< tt, lit< tt) (lit< tt, lit< tt)).place.first_constraint (lit< tt) (λ a. let h = a.1 in absurd (omega arith))
 
 -- The joined listing's first four verdicts: the bench file's first and second, each with the other's two.
 joined_front : take 4 (verdicts structural (decoded (join_bytes sample other))) ≡

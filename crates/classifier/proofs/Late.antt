@@ -130,8 +130,8 @@ module _ (engine : Engine) (file heads : List ℕ) (c : ℕ) (scratch : List ℤ
           (record { fielded = h; opened = opened; planned = planned; sound = sound; checks-are = refl; due-are = refl })
 
       go : (n : ℕ) → length order ≡ n → is_none (due engine (decoded file) start) ≡ not (is_start (plan_of engine (decoded file)) start)
-      go zero e = due_start-none engine (decoded file) (opened.fields-many ∙ e) start
-      go (suc n) e = due_start engine (decoded file) (ready (omega arith)) (omega (arith, opened.fields-many, planned.plan-in.places.few)) start l
+      go zero e = due_start-none engine (decoded file) (opened.fields_many ∙ e) start
+      go (suc n) e = due_start engine (decoded file) (ready (omega arith)) (omega (arith, opened.fields_many, planned.plan-in.places.few)) start l
 
 -- ---- a whole file
 module _ (engine : Engine) (room : ℕ) (file : List ℕ) (start : Start) (old scratch : List ℤ) where

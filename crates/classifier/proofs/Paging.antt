@@ -125,11 +125,11 @@ module _ (engine : Engine) (s : Spec) (start : Start) (k : ℕ) (wide : k ≡ wo
   unfolding page_of
   page_stopped t rest e h =
       let f = fit_is (stopped_fit (λ t. words (verdict_of engine s t)) k old ts (start_tuple start) at count last out st t rest e h) in
-      (rw (f, st.last-is, leb_no (length ts) count (next_fewer count ts t rest e)), out_is f)
+      (rw (f, st.last_is, leb_no (length ts) count (next_fewer count ts t rest e)), out_is f)
 
   pub page_finished : drop count ts ≡ [] → Ends (paged_as count last true)
   unfolding page_of
   page_finished e =
       let f = fit_is (finished_fit (λ t. words (verdict_of engine s t)) k old ts (start_tuple start) at count last out st e (let v = wide in omega arith)) in
       let n : length (drop count ts) ≡ 0 = ap length e in
-      (rw (f, st.last-is, leb_yes (length ts) count (omega (arith, length-drop count ts))), out_is f)
+      (rw (f, st.last_is, leb_yes (length ts) count (omega (arith, length-drop count ts))), out_is f)

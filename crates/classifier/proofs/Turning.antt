@@ -81,5 +81,5 @@ module _ (engine : Engine) (file heads : List ℕ) (c : ℕ) (checks due : List 
       walking_judges engine file heads c checks due scratch lists maps order w numbers (enables_lie file heads (length order) c numbers w.opened kinds),
       subst (Settled file (take (suc (length order)) heads) (rules_of heads (length order) c) due) (sym row_is) (walking_settled engine file heads c checks due scratch lists maps order w (take (length order) tuple) (subst (λ (k : ℕ). Placed k (length_at (plan_of engine (decoded file))) (take (length order) tuple)) (sym (walking_wide engine file heads c checks due scratch lists maps order w)) fits.0) fits.1),
       subst RowIn (ap (force engine (decoded file).constraints) (sym row_is) ∙ sym (forced_by raw)) (rows_scaled engine file w.opened.accepted (take (length order) tuple) fits.0),
-      record { inside = w.opened.projector-in w.fielded; is = w.opened.projector-is },
+      record { inside = w.opened.projector_in_lem w.fielded; is = w.opened.projector_is },
     )

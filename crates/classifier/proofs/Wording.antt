@@ -63,7 +63,7 @@ module _ (file fields rules enables checks due : List ℕ) (raw : List ℤ) (j :
       let f = field_checks (decoded file).fields row in
       let h = map (holds row) (decoded file).constraints in
       let n = length-field_checks (decoded file).fields row ∙ wide file fields rules enables checks due (length raw) j in
-      omega (arith, first_false_le (f ++ h), length-append f h, n, length-map (decoded file).constraints (holds row), j.few, j.rules-few, j.constraints-many)
+      omega (arith, first_false_le (f ++ h), length-append f h, n, length-map (decoded file).constraints (holds row), j.few, j.rules-few, j.constraints_many)
 
   module _ (out : List ℤ) (long : length out ≡ length raw + 4) (row : List ℤ) (forced : row ≡ forced_row file rules enables raw) where
     -- The row lies from word 4 on.

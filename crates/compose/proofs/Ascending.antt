@@ -195,7 +195,7 @@ module _ (l : List ℤ) (w : ℤ) (from : ℕ) where
   between_end low high h g = go (ltb low (length l)) refl ∙ h.same
     where
       here : high ≡ low
-      here = omega (arith, h.low-le)
+      here = omega (arith, h.low_le)
 
       go : (b : Bool) → ltb low (length l) ≡ b → low ≡ least (not_below l w) low (length l - low)
       go true e = let i = yes_lt low (length l) e in sym (least-stop (not_below l w) (length l) low i (ap (not_below l w) (sym here) ∙ h.stops (omega (arith, here))))

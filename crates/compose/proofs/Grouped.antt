@@ -173,9 +173,9 @@ member_below (member k) n h before m l e x g = by k x (unstrayed (member_row k) 
 
     by : (k : MemberKind) → eqb (member_row k).list 33 ≡ false → Unstray (member_row k) m → (is_own (member_row k).a && not (eqb m.a h.a)) ≡ false → (is_names (member_row k).a && leb n m.a) ≡ false → m.a < n
     by value x s d c = let z = yes_eq m.a h.a (unnot (eqb m.a h.a) d) in omega arith
-    by item x s d c = use_below unused m.a n some_field refl s.a-unused c
-    by pair x s d c = use_below unused m.a n some_field refl s.a-unused c
-    by key x s d c = use_below unused m.a n some_field refl s.a-unused c
+    by item x s d c = use_below unused m.a n some_field refl s.a_unused c
+    by pair x s d c = use_below unused m.a n some_field refl s.a_unused c
+    by key x s d c = use_below unused m.a n some_field refl s.a_unused c
     by disable x s d c = no_gt n m.a c
     by assign x s d c = no_gt n m.a c
     by axis x s d c = absurd (true≢false x)
@@ -266,9 +266,9 @@ good_offset ms (pos k) e = leb_yes k 63 (no_ge 63 k (or_split (ltb 63 k) (any (�
 good_offset ms (negsuc k) e = refl
 
 offset_in : (k : ProjectorKind) (h : Record) (ms : List Record) (c : Context) → GoodBy (projector k) c h ms → le_z h.q (pos 63) ≡ true
-offset_in sum h ms c g = zero_offset h.q (unstrayed (projector_row sum) h g.0.unstray).q-unused
-offset_in identity h ms c g = zero_offset h.q (unstrayed (projector_row identity) h g.0.unstray).q-unused
-offset_in parity h ms c g = zero_offset h.q (unstrayed (projector_row parity) h g.0.unstray).q-unused
+offset_in sum h ms c g = zero_offset h.q (unstrayed (projector_row sum) h g.0.unstray).q_unused
+offset_in identity h ms c g = zero_offset h.q (unstrayed (projector_row identity) h g.0.unstray).q_unused
+offset_in parity h ms c g = zero_offset h.q (unstrayed (projector_row parity) h g.0.unstray).q_unused
 offset_in decompose h ms c g =
     good_offset ms h.q (or_split (is_empty ms) (bad_offset ms h.q) (cond-zero (is_empty ms || bad_offset ms h.q) 8 (list_good (projector decompose) c.fields h [] ms g.1))).1
 
@@ -286,7 +286,7 @@ projector_packs n h ms l t =
     let c = t.before in
     let named = (or_split (is_names (projector_row k).a && leb c.fields h.a) (is_names (projector_row k).b && leb c.fields h.b) g.0.named).0 in
     record {
-      a_below = use_below (projector_row k).a h.a n l (first_use k) (unstrayed (projector_row k) h g.0.unstray).a-unused (ap (λ (x : ℕ). is_names (projector_row k).a && leb x h.a) (sym t.fields-are) ∙ named);
+      a_below = use_below (projector_row k).a h.a n l (first_use k) (unstrayed (projector_row k) h g.0.unstray).a_unused (ap (λ (x : ℕ). is_names (projector_row k).a && leb x h.a) (sym t.fields-are) ∙ named);
       base_in = (not_off (projector k) h g.0.scaled).0;
       offset_low = offset_in k h ms c g;
       axes_good = axes_in k c.fields h [] ms g.1;

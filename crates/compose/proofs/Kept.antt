@@ -174,7 +174,7 @@ module _ (file heads : List ℕ) (n : ℕ) (maps : List ℕ) (k : ℕ) (m : Kept
       next = set (set (set maps b a) (32 + b) (head + 1)) (64 + b) end
 
       a_below : a < n
-      a_below = let q = is.a-below in omega arith
+      a_below = let q = is.a_below in omega arith
 
       b_small : b < 32
       b_small = let q = is.b-below in omega arith

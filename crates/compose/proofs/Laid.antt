@@ -29,7 +29,7 @@ abbrev pub field_at : List ℕ → ℕ → ℕ → FieldSpec
 field_at file head end = field_by (record_at file head).b (record_at file head) (take (end - suc head) (drop (suc head) (records_of file)))
 
 pub field_group : (file : List ℕ) (head end : ℕ) → FieldIn file head end → field_of (group_in file head end) ≡ field_at file head end ∷ []
-field_group file head end is = ap (λ (k : Kind). field_in k (record_at file head) (take (end - suc head) (drop (suc head) (records_of file)))) (kind_of_lem file head ∙ ap kind_of is.is_field ∙ field_kind)
+field_group file head end is = ap (λ (k : Kind). field_in k (record_at file head) (take (end - suc head) (drop (suc head) (records_of file)))) (kind_of_lem file head ∙ ap kind_of is.field_is ∙ field_kind)
 
 -- read as h, with the bytes of its values
 module _ (h : code.Record) (file values : List ℕ) (head end : ℕ) (is : FieldIn file head end) (e : as_record h ≡ record_at file head) (ms : records_of values ≡ take (end - suc head) (drop (suc head) (records_of file))) where

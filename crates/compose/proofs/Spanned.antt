@@ -45,7 +45,7 @@ module _ (run places : List ℕ) (v : ℤ) (low high : ℕ) (s : Spans run place
   -- Those before are below (v, w), those after are not.
   pub spans_bracket : (w : ℤ) → Bracket run places v w low high
   spans_bracket w = record {
-    low_le = s.low-le;
+    low_le = s.low_le;
     high_le = s.high_le;
     below = λ k l. ap (λ (b : Bool). b || (eq_z (at k).p v && lt_z (at k).q w)) (s.below k l);
     rest = λ k l m. let r = apart v (at k).p (s.above k l m) in ap₂ (λ (a b : Bool). a || (b && lt_z (at k).q w)) r.0 r.1;
@@ -66,11 +66,11 @@ module _ (run places : List ℕ) (v : ℤ) (low high : ℕ) (s : Spans run place
     here l = any a (map (record_at run) l)
 
     first : here (take low places) ≡ false
-    first = any_no a (record_at run) (take low places) (λ m l. let k : m < low = omega (arith, length-take-le low places (omega (arith, s.low-le, s.high_le))) in rw (get_or-take low places m 0 k) (other (at m) (before-span m k)))
+    first = any_no a (record_at run) (take low places) (λ m l. let k : m < low = omega (arith, length-take-le low places (omega (arith, s.low_le, s.high_le))) in rw (get_or-take low places m 0 k) (other (at m) (before-span m k)))
 
     last : here (drop (high - low) (drop low places)) ≡ false
     last =
-        let e : low + (high - low) ≡ high = omega (arith, s.low-le) in
+        let e : low + (high - low) ≡ high = omega (arith, s.low_le) in
         ap here (drop-drop (high - low) low places ∙ ap (λ (n : ℕ). drop n places) e)
         ∙ any_no a (record_at run) (drop high places) (λ m l. rw (get_or-drop high places m 0) (other (at (high + m)) (after-span (high + m) (omega arith) (omega (arith, length-drop high places)))))
 

@@ -95,7 +95,7 @@ pub(crate) fn next_found(list: &[i64], run: &[u8], places: &[usize], v: Value, f
 }
 
 // Numbers of places: from low to before high.
-#[derive(Drop)]
+#[derive(Clone, Copy)]
 pub(crate) struct Span {
     pub low: usize,
     pub high: usize,

@@ -11,7 +11,7 @@ ghost use Rattle.compose.specs.Code.{as_engine, chosen_in, code_is, constraints_
 use spec::domains::part;
 use spec::records::{a_at, code_at, p_at};
 
-#[derive(Drop)]
+#[derive(Clone, Copy)]
 pub enum Engine {
     Structural,
     Exhaustive,

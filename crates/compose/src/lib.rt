@@ -1,4 +1,5 @@
 // Module 2, after src/verify/compose.rs: allowed lists, kept maps, field order, index tuples, forcing. Its definitions are in specs/.
+#![tactic(auto)]
 mod childless;
 pub mod filters;
 mod finding;

@@ -99,7 +99,7 @@ pub spec_told : (file : List ℕ) (shape : code.Shape) (scratch : ℕ) → file_
     → (shape.fields ∷ shape.constraints ∷ shape.total ∷ scratch ∷ []) ≡ spec_words (decoded file)
 spec_told file shape scratch fine is e =
     let s : scratch ≡ scratch_for (decoded file) = e ∙ ap (λ (o : Option Refused). unless_refused o (scratch_for (decoded file)) 0) fine in
-    λ i. is.fields i ∷ is.constraints i ∷ is.total-is i ∷ s i ∷ []
+    λ i. is.fields i ∷ is.constraints i ∷ is.total_is i ∷ s i ∷ []
 
 -- ---- a page
 -- A Bool as a number.

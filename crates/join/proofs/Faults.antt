@@ -157,8 +157,8 @@ unfolding shape_of too_many decoded spec_of
 shaped file s good e =
     let w = file_good file good in
     let few = decoded-few file w.whole in
-    let at₁ = ap (λ (x : shapes.Shape). x.constraintsAt) e in
-    let at₂ = ap (λ (x : shapes.Shape). x.projectorAt) e in
+    let at₁ = ap (λ (x : shapes.Shape). x.constraints_at) e in
+    let at₂ = ap (λ (x : shapes.Shape). x.projector_at) e in
     let fields = ap (λ (x : shapes.Shape). x.fields) e in
     let constraints = ap (λ (x : shapes.Shape). x.constraints) e in
     let all = ap (λ (x : shapes.Shape). x.total) e in
@@ -166,7 +166,7 @@ shaped file s good e =
     record {
       whole32 = w.whole32;
       short = w.short;
-      ranges = subst (λ (d : ℕ). Ranged file s.constraints_at d) (sym at₂) (subst (λ (c : ℕ). Ranged file c (shape_of file).projectorAt) (sym at₁) (ranged file good));
+      ranges = subst (λ (d : ℕ). Ranged file s.constraints_at d) (sym at₂) (subst (λ (c : ℕ). Ranged file c (shape_of file).projector_at) (sym at₁) (ranged file good));
       fields-are = fields;
       constraints-are = constraints;
       total_is = all;
@@ -187,10 +187,10 @@ module _ {file : List ℕ} {s : code.Shape} (u : Shaped file s) (kind : ℕ) (e 
 -- The two ranges, with fields moved up by at most 32.
 module _ {file : List ℕ} {s : code.Shape} (u : Shaped file s) (n : ℕ) (l : n ≤ 32) where
   pub fields_in : RangeIn file 0 s.constraints_at n
-  fields_in = let r = u.ranges.rising in let e = u.ranges.inside in record { rising = omega arith; inside = omega arith; moves_in = λ i a h. u.ranges.moves-in n i l (omega arith) }
+  fields_in = let r = u.ranges.rising in let e = u.ranges.inside in record { rising = omega arith; inside = omega arith; moves_in = λ i a h. u.ranges.moves_in n i l (omega arith) }
 
   pub constraints_in_lem : RangeIn file s.constraints_at s.projector_at n
-  constraints_in_lem = let e = u.ranges.inside in record { rising = u.ranges.rising; inside = omega arith; moves_in = λ i a h. u.ranges.moves-in n i l h }
+  constraints_in_lem = let e = u.ranges.inside in record { rising = u.ranges.rising; inside = omega arith; moves_in = λ i a h. u.ranges.moves_in n i l h }
 
 -- ---- the joined file as ranges of the two
 -- A record moved by 0 is as it was.
@@ -238,11 +238,11 @@ module _ {f g : List ℕ} {s t : code.Shape} (u : Shaped f s) (v : Shaped g t) w
       concat_map_append bytes (section 0 f) _
       ∙ ap₂ ◌++◌ (ap laid (sym (all_unmoved (section 0 f))) ∙ fields_moved u 0)
       (concat_map_append bytes (move 0 n) _
-      ∙ ap₂ ◌++◌ (ap (λ (k : ℕ). laid (move 0 k)) u.count-is ∙ fields_moved v s.fields)
+      ∙ ap₂ ◌++◌ (ap (λ (k : ℕ). laid (move 0 k)) u.count_is ∙ fields_moved v s.fields)
       (concat_map_append bytes (section 1 f) _
       ∙ ap₂ ◌++◌ (ap laid (sym (all_unmoved (section 1 f))) ∙ constraints_moved u 0)
       (concat_map_append bytes (move 1 n) (sum_bytes ∷ [])
-      ∙ ap₂ ◌++◌ (ap (λ (k : ℕ). laid (move 1 k)) u.count-is ∙ constraints_moved v s.fields) (append-nil sum_bytes))))
+      ∙ ap₂ ◌++◌ (ap (λ (k : ℕ). laid (move 1 k)) u.count_is ∙ constraints_moved v s.fields) (append-nil sum_bytes))))
 
   -- So long is the joined file.
   pub join-length : length (join_bytes f g) ≡ (s.projector_at + t.projector_at + 1) * 32
@@ -279,4 +279,4 @@ module _ {f g : List ℕ} {s t : code.Shape} (u : Shaped f s) (v : Shaped g t) w
       totals : total (join_spec (decoded f) (decoded g)) ≡ total_by s.fields t.fields s.total t.total
       totals =
           total_joined (decoded f) (decoded g) ∙ ap₂ (λ (n m : ℕ). total_by n m (total (decoded f)) (total (decoded g))) (sym u.fields-are) (sym v.fields-are)
-          ∙ ap₂ (λ (x y : ℕ). total_by s.fields t.fields x y) (sym u.total-is) (sym v.total-is)
+          ∙ ap₂ (λ (x y : ℕ). total_by s.fields t.fields x y) (sym u.total_is) (sym v.total_is)

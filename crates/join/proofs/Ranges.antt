@@ -133,9 +133,9 @@ member_small (member k) n h before m e l a f g = by k l (unstrayed (member_row k
   where
     by : (k : MemberKind) → section_of (member k) < 2 → Unstray (member_row k) m → (is_own (member_row k).a && not (eqb m.a h.a)) ≡ false → (is_names (member_row k).a && leb n m.a) ≡ false → Small m
     by value l s d c = ((let z = yes_eq m.a h.a (unnot (eqb m.a h.a) d) in omega arith), zero_small m.b s.b-unused)
-    by item l s d c = (zero_small m.a s.a-unused, zero_small m.b s.b-unused)
-    by pair l s d c = (zero_small m.a s.a-unused, zero_small m.b s.b-unused)
-    by key l s d c = (zero_small m.a s.a-unused, zero_small m.b s.b-unused)
+    by item l s d c = (zero_small m.a s.a_unused, zero_small m.b s.b-unused)
+    by pair l s d c = (zero_small m.a s.a_unused, zero_small m.b s.b-unused)
+    by key l s d c = (zero_small m.a s.a_unused, zero_small m.b s.b-unused)
     by disable l s d c = ((let z = no_gt n m.a c in omega arith), zero_small m.b s.b-unused)
     by assign l s d c = ((let z = no_gt n m.a c in omega arith), zero_small m.b s.b-unused)
     by axis l s d c = absurd (omega arith)
@@ -171,7 +171,7 @@ constraint_small field n h ms l e g s = absurd (false≢true e)
 constraint_small unknown n h ms l e g s = absurd (false≢true e)
 constraint_small (constraint k) n h ms l e g s =
     let w = constraint-names (constraint k) n h ms e g in
-    let x = w.a-below in
+    let x = w.a_below in
     let y = w.b-below in
     let a : h.a < 32 = omega arith in
     let b : h.b < 32 = omega arith in
@@ -274,9 +274,9 @@ module _ (file : List ℕ) (good : file_fault file ≡ none) where
   unfolding h ms
   C_in =
       let l = laid.last in
-      let one : section_of laid.head.kind ≡ 2 = ap section_of l.is-sort in
+      let one : section_of laid.head.kind ≡ 2 = ap section_of l.is_sort in
       rest one (good_sections l.before (group laid.head laid.members ∷ [])
-      (subst (λ (k : Kind). GoodBy k l.before laid.head laid.members × (eqb (after_head k l.before).section 2 ≡ true)) (sym l.is-sort) (l.good, refl)))
+      (subst (λ (k : Kind). GoodBy k l.before laid.head laid.members × (eqb (after_head k l.before).section 2 ≡ true)) (sym l.is_sort) (l.good, refl)))
     where
       rest : section_of laid.head.kind ≡ 2 → All OneSection (group laid.head laid.members ∷ []) → All (In 2) (laid.head ∷ laid.members)
       rest e (s ∷ᴬ []ᴬ) = ◌∷ᴬ◌ {x = laid.head} e (All_imp (λ (m : Record) q. q ∙ e) s)
@@ -313,8 +313,8 @@ module _ (file : List ℕ) (good : file_fault file ≡ none) where
       let g = group laid.head laid.members in
       let d = foldl projector_of (foldl projector_of Sum (field_groups gs)) (constraint_groups gs) in
       ap is_sum (ap (foldl projector_of Sum) laid.split ∙ foldl-append projector_of Sum (field_groups gs) (constraint_groups gs ++ (g ∷ [])) ∙ foldl-append projector_of (foldl projector_of Sum (field_groups gs)) (constraint_groups gs) (g ∷ [])
-      ∙ ap (λ (k : Kind). projector_in k laid.head laid.members d) l.is-sort)
-      ∙ sum_sort l.sort laid.head laid.members ∙ sym (ap is_sum_kind l.is-sort)
+      ∙ ap (λ (k : Kind). projector_in k laid.head laid.members d) l.is_sort)
+      ∙ sum_sort l.sort laid.head laid.members ∙ sym (ap is_sum_kind l.is_sort)
 
   -- the numbers of the two sections are small
   sections_small : All Small (A ++ B)

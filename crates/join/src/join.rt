@@ -13,21 +13,21 @@ use spec::records::code_at;
 use spec::validate::{Shape, Validation, validate};
 
 // The file that a refusal is about; the joined file is both.
-#[derive(Drop)]
+#[derive(Clone, Copy)]
 pub enum Which {
     First,
     Second,
     Both,
 }
 
-#[derive(Drop)]
+#[derive(Clone, Copy)]
 pub struct JoinRefusal {
     pub which: Which,
     pub number: u8,
     pub record: usize,
 }
 
-#[derive(Drop)]
+#[derive(Clone, Copy)]
 pub enum Joined {
     Length(usize),
     Refused(JoinRefusal),

@@ -1,4 +1,5 @@
 // join_files FIRST SECOND: writes the joined file to standard output; or, to standard error, a line with refused, the file that it is about, the number and the record.
+#![tactic(auto)]
 ghost use Rattle.io.specs.Counts.{IsPrefixLen};
 
 use join::join::{JoinRefusal, Joined, Which, join};

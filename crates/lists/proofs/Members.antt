@@ -9,13 +9,14 @@ use native.Mathlib.Nat.{add-suc, add-zero, suc-add, zero-add}
 use native.Mathlib.Omega.{arith}
 use lib.Dec.{eqb}
 use Rattle.lists.specs.Lists.{any, concat_map, cons_if, elem, filter, span, upto}
-use Rattle.lists.proofs.All.{All, ◌∷ᴬ◌}
+use Rattle.lists.proofs.All.{All, []ᴬ, ◌∷ᴬ◌}
 use Rattle.lists.proofs.Tests.{or_true, yes_eq}
 
 module _ {A : Type 0} where
   pub All-mem : {P : A → Type 0} {x : A} {xs : List A} → All P xs → Memᴰ x xs → P x
   All-mem {P} (h ∷ᴬ t) (Memᴰ.head e) = subst P (sym e) h
   All-mem (h ∷ᴬ t) (Memᴰ.tail m) = All-mem t m
+  All-mem []ᴬ x4 = elim x4 [ ]
 
   pub mem-any : (p : A → Bool) {x : A} {xs : List A} → Memᴰ x xs → p x ≡ true → any p xs ≡ true
   mem-any p (Memᴰ.head {x = y} {xs = xs} e) h = rw (ap p (sym e) ∙ h)

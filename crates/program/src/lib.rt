@@ -1,4 +1,5 @@
 // What the programs share: standard input, read to its end.
+#![tactic(auto)]
 pub mod list;
 
 ghost use Rattle.io.specs.Counts.{IsPrefixLen};

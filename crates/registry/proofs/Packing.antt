@@ -86,7 +86,7 @@ digits_from_or (Axis width shift zero ∷ axes) word divisor v valid clear = go 
 digits_from_or (Axis width shift (suc r) ∷ axes) word divisor v valid clear =
     let first = first_valid (Axis width shift (suc r)) axes valid in
     let digit = v / divisor % suc r in
-    let small : digit < 2 ^ width = le_trans (mod-lt (v / divisor) {m = suc r} (omega arith)) first.radixFits in
+    let small : digit < 2 ^ width = le_trans (mod-lt (v / divisor) {m = suc r} (omega arith)) first.radix_fits in
     ap (digits_from (word + digit * 2 ^ shift) axes) (div-div-eq-div-mul v divisor (suc r))
     ∙ digits_from_or axes (word + digit * 2 ^ shift) (divisor * suc r) v first.rest (digit_added (Axis width shift (suc r)) axes word digit clear small first.others)
     ∙ ap (λ (w : ℕ). digits_or w (divisor * suc r) axes v) (sym (digit_or (Axis width shift (suc r)) axes word digit clear small))
@@ -131,7 +131,7 @@ divisors_le (Axis width shift radix ∷ axes) divisor valid =
     first = first_valid (Axis width shift radix) axes valid
 
     grown : divisor_by radix divisor * 2 ^ widths axes ≤ divisor * 2 ^ (width + widths axes)
-    grown = rw (pow-add, ← mul_assoc) (mul-le-mul (divisor_by_le width radix divisor first.radixFits) (le_refl (2 ^ widths axes)))
+    grown = rw (pow-add, ← mul_assoc) (mul-le-mul (divisor_by_le width radix divisor first.radix_fits) (le_refl (2 ^ widths axes)))
 
 -- With valid axes every divisor of the loop is at most 2^63.
 pub divisors_fit : (axes : List AxisSpec) → axes_valid axes ≡ true → All (λ d. d ≤ 2 ^ 63) (divisors 1 axes)

@@ -139,4 +139,4 @@ pub project_or : (file : List ℕ) → Whole (records_of file)
     → (row : List ℤ) → project (decoded file).projector row ≡ packed_or offset axes (value_at row f -ℤ base)
 project_or file w f base offset axes e row =
     let v = packing_valid file w f base offset axes e in
-    ap (λ p. project p row) e ∙ packed_or_lem offset axes (value_at row f -ℤ base) v.axes-valid v.offset-valid
+    ap (λ p. project p row) e ∙ packed_or_lem offset axes (value_at row f -ℤ base) v.axes_valid_lem v.offset_valid_lem

@@ -14,14 +14,14 @@ use spec::domains::part;
 use spec::numbers::{Value, power, powers};
 use spec::records::{a_at, b_at, code_at, p_at, q_at};
 
-#[derive(Drop)]
+#[derive(Clone, Copy)]
 pub enum Projection {
     Nothing,
     Number(i64),
 }
 
 // A number below 2^63, where it fits.
-#[derive(Drop)]
+#[derive(Clone, Copy)]
 pub struct Word {
     pub fits: bool,
     pub word: u64,

@@ -1,4 +1,5 @@
 // Lists each rules file that an argument names, under both engines, as the stored answers of the original have it. The original knows no places: 0 is printed for each.
+#![tactic(auto)]
 ghost use Rattle.std.specs.Prelude.{◌≤◌};
 ghost use Rattle.io.specs.Counts.{IsPrefixLen};
 

@@ -182,7 +182,7 @@ module _ (x : ℕ) (test : Kind → Bool) (agree : (k : Kind) → is_member k �
     done-count i count g d = omega (arith, g.counted, ap length d.none_left)
 
     pub done_stands : (i count : ℕ) → Gone i count → Done i → i ≡ stands_at (suc x) (records_of file)
-    done_stands i count g d = omega (arith, g.stands, d.none-stands)
+    done_stands i count g d = omega (arith, g.stands, d.none_stands)
 
     pub end_done : (i : ℕ) → length file / 32 ≤ i → Done i
     end_done i h =

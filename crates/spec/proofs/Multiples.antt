@@ -1,5 +1,5 @@
 -- The code's arithmetic on steps and ranges.
-use mathlib.Core.Bool.{false, false≢true, true, true≢false}
+use mathlib.Core.Bool.{Bool, false, false≢true, true, true≢false}
 use mathlib.Core.List.{List}
 use mathlib.Core.Logic.{◌⊎◌, inl, inr}
 use mathlib.Core.Path.{◌∙◌, ◌≡◌, ap, refl}
@@ -7,11 +7,11 @@ use Prim.Native.Nat.{◌*◌, ◌+◌, ◌-◌, ◌/◌, ◌<◌, ◌^◌, ◌�
 use native.Mathlib.Nat.{div-le_self, div-mul-le_self}
 use native.Mathlib.Numerals.{add-one}
 use native.Mathlib.Omega.{arith}
-use lib.Dec.{T, eqb}
+use lib.Dec.{T, eqb, ltb}
 use lib.IntN.{ -ℤ_one, ◌*ℤ◌, ◌+ℤ◌, ◌-ℤ◌, nat_abs, negsuc, neg_ℤ, pos, ℤ}
 use lib.Signed.{le_z, lt_z, non_neg, quot_z, rem_z}
 use mir.Syntax.{w64}
-use mir.Val.{Fits, SFits, of_z, to_z}
+use mir.Val.{Fits, SFits, of_z, sel, to_z}
 use mir.ValLaws.{to_z-of_z, to_z_pos}
 use borrow.Author.Rules.{sfits_of}
 use Rattle.lists.specs.Integers.{elem_z}
@@ -195,6 +195,18 @@ scale_bound (negsuc a) e = yes_le (suc a) (2 ^ 56) e
 pub first_bound : (step : ℕ) (p : ℤ) → step ≤ 2 ^ 56 → nat_abs p ≤ 2 ^ 56 → nat_abs (first_multiple step p) ≤ 2 ^ 57
 first_bound step (pos a) s h = omega (arith, div-mul-le_self (a + (step - 1)) step)
 first_bound step (negsuc a) s h = omega (arith, neg_abs (suc a / step * step), div-mul-le_self (suc a) step)
+
+-- what bits are that are read as a number not below 0
+pub bits_are : (n s : ℕ) → to_z w64 n ≡ pos s → n ≡ s
+bits_are n s e = go (ltb n (2 ^ 63)) e
+  where
+    go : (b : Bool) → sel b (pos n) (negsuc (2 ^ 64 - suc n)) ≡ pos s → n ≡ s
+    go true h = cc
+    go false h = cc
+
+pub bits_of : (n : ℕ) (r : ℤ) → negative r ≡ false → to_z w64 n ≡ r → n ≡ of_z w64 r
+bits_of n (pos m) natural e = bits_are n m e
+bits_of n (negsuc m) natural e = absurd (true≢false natural)
 
 -- The step of a record, as the code takes it.
 pub record StepIs (r : ℤ) (bits : ℕ) : Type 0 where

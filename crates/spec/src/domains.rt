@@ -13,7 +13,7 @@ use crate::numbers::{Index, Value};
 use crate::records::{Record, code_at, p_at};
 
 // first, first + step, ..: len of them.
-#[derive(Drop)]
+#[derive(Clone, Copy)]
 pub struct Rise {
     pub first: i64,
     pub step: i64,

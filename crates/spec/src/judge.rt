@@ -10,7 +10,7 @@ use crate::kinds::{Class, NAMES, NATURAL, OWN, Row, UNUSED, class_of, row_in, se
 use crate::records::Record;
 
 // Where a head stands: how many fields and constraints are before it, and the section that was reached: 0 fields, 1 constraints, 2 projector.
-#[derive(Drop)]
+#[derive(Clone, Copy)]
 pub struct Context {
     pub fields: usize,
     pub constraints: usize,

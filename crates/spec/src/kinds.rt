@@ -4,7 +4,7 @@ ghost use Rattle.spec.specs.Kind.{kind_of, row_of, is_member, section_of};
 ghost use Rattle.spec.specs.Code.{class_of, table_row, table_words, code_row};
 
 // What a record is.
-#[derive(Drop)]
+#[derive(Clone, Copy)]
 pub enum Class {
     Field,
     Member,
@@ -67,7 +67,7 @@ pub const OWN: u8 = 3;
 pub const NAMES: u8 = 4;
 
 // A row of the table: the list that a head takes or that a member stands in, by the head's kind number and 0 for none; then the uses of a, b, p, q, r.
-#[derive(Drop)]
+#[derive(Clone, Copy)]
 pub struct Row {
     pub list: u8,
     pub a: u8,

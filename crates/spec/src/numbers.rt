@@ -5,11 +5,11 @@ ghost use Rattle.spec.specs.Record.{word_at};
 ghost use Rattle.spec.specs.Code.{eight_at};
 
 // An index into a list.
-#[derive(Drop)]
+#[derive(Clone, Copy)]
 pub struct Index(pub usize);
 
 // The value of a field.
-#[derive(Drop)]
+#[derive(Clone, Copy)]
 pub struct Value(pub i64);
 
 // The powers of two that widths and shifts take.
@@ -89,7 +89,7 @@ pub fn power(k: usize) -> u64
 }
 
 // A number below `below` stays below 2^63 when multiplied by `raised`.
-#[derive(Drop)]
+#[derive(Clone, Copy)]
 pub struct Shift {
     pub raised: u64,
     pub below: u64,

@@ -6,7 +6,7 @@ ghost use Rattle.spec.specs.Code.{five_at, as_record, lead_of, InBytes};
 use crate::numbers::{eight, number_at, small, wide};
 
 // A record: its kind's number, a, b, the five bytes that no kind uses as one number, p, q, r.
-#[derive(Drop)]
+#[derive(Clone, Copy)]
 pub struct Record {
     pub code: u8,
     pub a: usize,

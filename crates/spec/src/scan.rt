@@ -14,7 +14,7 @@ use crate::records::{Record, record_at};
 use crate::refusal::Refusal;
 
 // The fields, the constraints and the section so far, and the last head's record, counted from 0.
-#[derive(Drop)]
+#[derive(Clone, Copy)]
 pub struct State {
     pub fields: usize,
     pub constraints: usize,
@@ -22,7 +22,7 @@ pub struct State {
     pub head: usize,
 }
 
-#[derive(Drop)]
+#[derive(Clone, Copy)]
 pub enum Turn {
     Next(State),
     Bad(Refusal),

@@ -16,7 +16,7 @@ use crate::walker::{Head, next_head};
 pub const LIMIT: usize = 1_000_000_000;
 
 // The fields of a file that has no fault: how many, the records up to the last of their values, and the product of their domain lengths, which stops growing above the limit.
-#[derive(Drop)]
+#[derive(Clone, Copy)]
 pub struct Fields {
     pub count: usize,
     pub end: usize,
@@ -24,7 +24,7 @@ pub struct Fields {
 }
 
 // The constraints likewise.
-#[derive(Drop)]
+#[derive(Clone, Copy)]
 pub struct Constraints {
     pub count: usize,
     pub end: usize,

@@ -9,7 +9,7 @@ use crate::scan::scan;
 use crate::shape::{LIMIT, constraints_of, fields_of, total_of};
 
 // An accepted file: how many fields and constraints, the records before the first constraint and before the projector, the total.
-#[derive(Drop)]
+#[derive(Clone, Copy)]
 pub struct Shape {
     pub fields: usize,
     pub constraints: usize,
@@ -18,7 +18,7 @@ pub struct Shape {
     pub total: usize,
 }
 
-#[derive(Drop)]
+#[derive(Clone, Copy)]
 pub enum Validation {
     Accepted(Shape),
     Refused(Refusal),

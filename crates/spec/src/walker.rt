@@ -5,14 +5,14 @@ ghost use Rattle.spec.specs.Code.{head_at};
 use crate::records::code_at;
 
 // The bytes, and the number of the next record, counting from 0.
-#[derive(Drop)]
+#[derive(Clone, Copy)]
 pub struct Walker<'a> {
     pub file: &'a [u8],
     pub next: usize,
 }
 
 // What stands at a record's number: a record, by its kind's number, or the end.
-#[derive(Drop)]
+#[derive(Clone, Copy)]
 pub enum Head {
     Code(u8),
     End,

@@ -1,4 +1,5 @@
 // Judges the rules file on standard input, and prints `accepted` and its total, or `refused`, the number and the record.
+#![tactic(auto)]
 ghost use Rattle.std.specs.Prelude.{◌≡◌, take};
 ghost use Rattle.io.specs.Counts.{IsPrefixLen};
 ghost use Rattle.validate.specs.Printed.{printed};

@@ -1,4 +1,5 @@
 // Judges each rules file that an argument names, and prints its name and the answer.
+#![tactic(auto)]
 use libc::STDOUT_FILENO;
 use listing::text::put_answer;
 use program::ROOM;

@@ -139,7 +139,7 @@ same-length-3 c = search rules
 returns-3 : tie.Need-returns-3
 returns-3 c =
     let s = c.before.before.before.before.before.before.before.before.before.before.before.before.before.before.before.before.before.before.before.before in
-    let w = fieldless (as_engine s.args.engine) (decoded s.args.file.now) (length s.args.out.now) s.args.out.now (as_start s.args.start) (s.requires.0.fields-many ∙ c.before.if3.true) (sym (ap (λ (p : Plan). is_start p (as_start s.args.start)) (planned c.before.before.before.before.before.before.before.before).plan-is) ∙ begins c.before.before) in
+    let w = fieldless (as_engine s.args.engine) (decoded s.args.file.now) (length s.args.out.now) s.args.out.now (as_start s.args.start) (s.requires.0.fields_many ∙ c.before.if3.true) (sym (ap (λ (p : Plan). is_start p (as_start s.args.start)) (planned c.before.before.before.before.before.before.before.before).plan-is) ∙ begins c.before.before) in
     gives_page (late_fault (as_engine s.args.engine) (decoded s.args.file.now) (length s.args.out.now) (as_start s.args.start)) (page_of (decoded s.args.file.now) (length s.args.out.now) (due_tuples (as_engine s.args.engine) (decoded s.args.file.now) (as_start s.args.start)) (as_start s.args.start)) (over (page_words (as_engine s.args.engine) (decoded s.args.file.now) (length s.args.out.now) (due_tuples (as_engine s.args.engine) (decoded s.args.file.now) (as_start s.args.start))) s.args.out.now) s.args.out.now (not_late c.before.before) c.written.result.answer c.written.result.last s.args.out.now (c.written.ensures.0 ∙ w.0) w.1
 
 slice-aggregate-page-of : tie.Need-slice-aggregate-page-of

@@ -41,7 +41,7 @@ put-record-requires c κs =
     let l = c.before.before.loop in
     let inside = s.requires.0.inside in
     let m = mid_len l.at (l.at + 32) l.out (omega (arith, l.invariant.2, l.invariant.3)) in
-    (omega arith, m ∙ omega arith, s.requires.0.moves-in l.i l.invariant.0 (omega arith))
+    (omega arith, m ∙ omega arith, s.requires.0.moves_in l.i l.invariant.0 (omega arith))
 
 add-i : tie.Need-overflow-add-i invariant-loop decreases-loop
 add-i c = search rules

@@ -70,7 +70,7 @@ module _ (c : tie.After-t11) where
   run-whole = let file = s.args.file.now in take_all (length file / 32 - after) (drop after records) (omega (arith, length-drop after records, length_records file))
 
   value_scaled : on_scale (held value) ≡ true
-  value_scaled = rw (value_read, value-is) (All_at (pos 0) row s.pre.0.scaled h.a s.pre.1.a-below)
+  value_scaled = rw (value_read, value-is) (All_at (pos 0) row s.pre.0.scaled h.a s.pre.1.a_below)
 
   abbrev projected : Kind → Option ℤ
   projected k = project_in k h ms row
@@ -111,9 +111,9 @@ decompose-requires c κs =
     let s = t.before.before.before.before in
     let p = c.before.p-at in
     let q = c.q-at in
-    let base = ap on_scale (to_z-of_z w64 p.result (sfits_of p.type-inv) ∙ p.ensures) ∙ s.requires.1.base-in in
-    let offset = ap (λ (x : ℤ). le_z x (pos 63)) (to_z-of_z w64 q.result (sfits_of q.type-inv) ∙ q.ensures) ∙ s.requires.1.offset-in in
-    (value_scaled t, base, offset, subst (All AxisIn) (sym (run-read t c.before.before.part.ensures.1 ∙ run-whole t)) s.requires.1.axes-in)
+    let base = ap on_scale (to_z-of_z w64 p.result (sfits_of p.type-inv) ∙ p.ensures) ∙ s.requires.1.base_in in
+    let offset = ap (λ (x : ℤ). le_z x (pos 63)) (to_z-of_z w64 q.result (sfits_of q.type-inv) ∙ q.ensures) ∙ s.requires.1.offset_in in
+    (value_scaled t, base, offset, subst (All AxisIn) (sym (run-read t c.before.before.part.ensures.1 ∙ run-whole t)) s.requires.1.axes_in)
 
 returns : tie.Need-returns
 unfolding kind_of
