@@ -1,0 +1,77 @@
+-- `compose::filters::compact` meets its contract. The invariant: those of the first i values that meet the test stand in front.
+use mathlib.Core.Logic.{⊎_elim}
+use mathlib.Core.Path.{◌∙◌, ◌≡◌, sym}
+use Prim.Native.Nat.{◌-◌}
+use native.Mathlib.Omega.{arith}
+use borrow.Author.Rules.{sfits_of}
+use lib.IntN.{pos}
+use lib.ListN.{get_or}
+use mir.Syntax.{w64}
+use mir.Val.{of_z, to_z}
+use mir.ValLaws.{to_z-of_z}
+use Rattle.spec.proofs.Multiples.{held}
+use Rattle.compose.proofs.Narrowing.{moved_count, moved_end, moved_kept, moved_none, moved_past, moved_read, test_with}
+use Rattle.compose.proofs.filters.compact.Goals.{After-meets, After-x-1}
+use Rattle.compose.proofs.filters.compact.Goals as goal
+
+pub loop-i-init : goal.loop-i-init
+loop-i-init c = moved_none (test_with c.args.code (held c.args.p) (held c.args.q) c.args.run.now) c.args.list.now
+
+pub meets-requires : goal.meets-requires
+meets-requires c = rw (to_z-of_z w64 c.args.p c.ranges.p) c.requires
+
+-- the value read, and its test
+value : (c : After-x-1) → to_z w64 (of_z w64 (get_or c.loop-i.list c.loop-i.i (pos 0))) ≡ get_or c.args.list.now c.loop-i.i (pos 0)
+value c =
+    let l = c.loop-i in
+    to_z-of_z w64 _ (sfits_of c.x-1.given) ∙ moved_read (test_with c.args.code (held c.args.p) (held c.args.q) c.args.run.now) c.args.list.now l.list l.w l.i l.invariant
+
+test : (c : After-meets) → test_with c.args.code (held c.args.p) (held c.args.q) c.args.run.now (get_or c.args.list.now c.loop-i.i (pos 0)) ≡ c.meets.result
+test c = sym (rw (value (record { before = c.before.before; type_inv = record { run = c.before.before.shared_slice_known-1.given } })) at c.meets.ensures)
+
+pub offset_bounds-list-w : goal.offset_bounds-list-w
+offset_bounds-list-w c =
+    let m = c.loop-i.invariant in
+    let b = m.behind in
+    let e = m.long in
+    omega arith
+
+pub bounds-list-w : goal.bounds-list-w
+bounds-list-w c =
+    let m = c.loop-i.invariant in
+    let b = m.behind in
+    let e = m.long in
+    omega arith
+
+pub overflow_add-w : goal.overflow_add-w
+overflow_add-w c =
+    let m = c.loop-i.invariant in
+    let b = m.behind in
+    let e = m.long in
+    omega arith
+
+pub overflow_add-i : goal.overflow_add-i
+overflow_add-i c = let e = c.loop-i.invariant.long in omega arith
+
+pub loop-i-smaller : goal.loop-i-smaller
+loop-i-smaller c = let e = c.loop-i.invariant.long in omega arith
+
+pub loop-i-preserved : goal.loop-i-preserved
+loop-i-preserved c =
+    let l = c.loop-i in
+    let p = test_with c.args.code (held c.args.p) (held c.args.q) c.args.run.now in
+    let e = l.invariant.long in
+    ⊎_elim
+    (λ u. rw (u.1, u.2, value (goal.at.loop-i-preserved c).After-x-1) (moved_kept p c.args.list.now l.list l.w l.i l.invariant (omega arith) (test (goal.at.loop-i-preserved c).After-meets ∙ u.0.true)))
+    (λ u. rw (u.1, u.2) (moved_past p c.args.list.now l.list l.w l.i l.invariant (omega arith) (test (goal.at.loop-i-preserved c).After-meets ∙ u.0.left)))
+    c.if-meets.branch
+
+pub shape_of-list : goal.shape_of-list
+shape_of-list c = c.loop-i.invariant.long
+
+pub returns : goal.returns
+returns c =
+    let l = c.loop-i in
+    let p = test_with c.args.code (held c.args.p) (held c.args.q) c.args.run.now in
+    let e = l.invariant.long in
+    let whole = rw (sym (to_z-of_z w64 c.args.p c.ranges.p), sym (to_z-of_z w64 c.args.q c.ranges.q)) (moved_count p c.args.list.now l.list l.w l.i l.invariant (omega arith), moved_end p c.args.list.now l.list l.w l.i l.invariant (omega arith)) in record { count = whole.0; left = whole.1 }

@@ -1,0 +1,70 @@
+-- `compose::filters::narrow_all` meets its contract. The invariant: the values in front, narrowed by the constraints left, are the list narrowed by all.
+use mathlib.Core.List.{List, ◌++◌, foldl}
+use mathlib.Core.Path.{◌∙◌, ap, refl, subst, sym}
+use Prim.Native.Nat.{◌+◌, ◌-◌, ◌≤◌}
+use native.Mathlib.Omega.{arith}
+use lib.IntN.{ℤ}
+use lib.ListN.{drop, get_or, length, take}
+use lib.Seq.{length_front, length-take-le, take-length}
+use Rattle.spec.specs.Record.{constraint_of}
+use Rattle.registry.specs.Code.{HeadIn, group_in}
+use Rattle.compose.specs.Maps.{narrow_by}
+use Rattle.compose.specs.Code.{constraints_in}
+use Rattle.compose.proofs.Narrowing.{over_front, over_room}
+use Rattle.compose.proofs.Positions.{fold_end, fold_turn, head_turn_lem}
+use Rattle.compose.proofs.filters.narrow_all.Goals as goal
+
+pub loop-k-init : goal.loop-k-init
+loop-k-init c = (omega arith, omega arith, refl, ap (λ (z : List ℤ). foldl (narrow_by c.args.f) z (constraints_in c.args.file.now c.args.heads.now)) (take-length c.args.list.now))
+
+pub overflow_sub-k : goal.overflow_sub-k
+overflow_sub-k c = c.loop-k.invariant.0
+
+pub bounds-heads-k : goal.bounds-heads-k
+bounds-heads-k c = omega arith
+
+pub bounds-heads-k-in-loop-k : goal.bounds-heads-k-in-loop-k
+bounds-heads-k-in-loop-k c = omega arith
+
+pub slice_bounds-narrow_by-end : goal.slice_bounds-narrow_by-end
+slice_bounds-narrow_by-end c = c.loop-k.invariant.1
+
+pub slice_bounds-narrow_by-end-in-loop-k : goal.slice_bounds-narrow_by-end-in-loop-k
+slice_bounds-narrow_by-end-in-loop-k c =
+    let l = c.loop-k in
+    sym (length-take-le l.len l.list l.invariant.1)
+
+pub narrow_by-len-requires : goal.narrow_by-len-requires
+narrow_by-len-requires c =
+    let l = c.loop-k in
+    head_turn_lem (λ head end. HeadIn c.args.file.now head end 32) c.args.heads.now l.k c.requires l.invariant.0 (omega arith)
+
+pub loop-k-smaller : goal.loop-k-smaller
+loop-k-smaller c = omega arith
+
+pub loop-k-preserved : goal.loop-k-preserved
+loop-k-preserved c =
+    let l = c.loop-k in
+    let file = c.args.file.now in
+    let heads = c.args.heads.now in
+    let by = narrow_by c.args.f in
+    let old = take l.len l.list in
+    let rest = drop l.len l.list in
+    let new = foldl by old (constraint_of (group_in file (get_or heads (l.k - 1) 0) (get_or heads l.k 0))) in
+    let r = c.narrow_by-len.result in
+    let e = c.narrow_by-len.ensures in (
+      omega arith,
+      subst (λ (z : List ℤ). r ≤ length (z ++ rest)) (sym e.left) (over_room new old rest r e.count),
+      length_front l.list c.narrow_by-len.new.1.1.1.1.0 l.len c.narrow_by-len.auto.1.1.1.1.0 ∙ l.invariant.2,
+      ap (λ (z : List ℤ). foldl by z (constraints_in file (drop (l.k + 1 - 1) heads))) (ap (λ (z : List ℤ). take r (z ++ rest)) e.left ∙ over_front new old rest r e.count)
+          ∙ sym (fold_turn by constraint_of file heads l.k l.invariant.0 old (omega arith)) ∙ l.invariant.3,
+    )
+
+pub shape_of-list : goal.shape_of-list
+shape_of-list c = c.loop-k.invariant.2
+
+pub returns : goal.returns
+returns c =
+    let l = c.loop-k in
+    let e = sym (fold_end (narrow_by c.args.f) constraint_of c.args.file.now c.args.heads.now l.k l.invariant.0 (take l.len l.list) (omega arith)) ∙ l.invariant.3 in
+    record { count = sym (length-take-le l.len l.list l.invariant.1) ∙ ap length e; front = e }

@@ -1,0 +1,27 @@
+-- `compose::finding::next_of` meets its contract: where the parent's value is no key any index stands, and a key asks for a pair.
+use mathlib.Core.List.{map}
+use mathlib.Core.Path.{◌∙◌, ◌≡◌, sym}
+use Prim.Native.Nat.{◌-◌}
+use lib.IntN.{pos}
+use lib.ListN.{get_or, length}
+use Rattle.lists.specs.Lists.{any}
+use Rattle.spec.specs.Record.{entry_of, records_of}
+use Rattle.registry.specs.Check.{is_key}
+use Rattle.registry.proofs.Cross.{any_key}
+use Rattle.compose.proofs.Keys.{least-any, least_paired}
+use Rattle.compose.proofs.finding.next_of.Goals.{After-finds_p}
+use Rattle.compose.proofs.finding.next_of.Goals as goal
+
+keyed : (c : After-finds_p) → any (is_key c.args.v.0) (map entry_of (records_of c.args.run.now)) ≡ c.finds_p.result
+keyed c = any_key c.args.v.0 (records_of c.args.run.now) ∙ sym c.finds_p.ensures
+
+pub returns-then-not-finds_p : goal.returns-then-not-finds_p
+returns-then-not-finds_p c =
+    let list = c.args.list.now in
+    sym (least-any (map entry_of (records_of c.args.run.now)) c.args.v.0 (λ k. get_or list k (pos 0)) c.args.from.0 (length list - c.args.from.0) (keyed (goal.at.returns-then-not-finds_p c).After-finds_p ∙ c.if-not-finds_p.true))
+
+pub returns : goal.returns
+returns c =
+    let list = c.args.list.now in
+    c.next_tried.ensures
+    ∙ sym (least_paired (map entry_of (records_of c.args.run.now)) c.args.v.0 (λ k. get_or list k (pos 0)) c.args.from.0 (length list - c.args.from.0) (keyed (goal.at.returns c).After-finds_p ∙ c.if-not-finds_p.false))

@@ -1,0 +1,130 @@
+-- `evaluate::checks::failing_field` meets its contract. The invariant: the first that fails is the first of those from f on, behind f others; of the raw row none from f on fails.
+use mathlib.Core.Bool.{Bool, true}
+use mathlib.Core.List.{List}
+use mathlib.Core.Logic.{⊎_elim}
+use mathlib.Core.Path.{◌∙◌, ◌≡◌, ap, ap₂, sym}
+use Prim.Native.Nat.{◌-◌, suc, ℕ}
+use native.Mathlib.Numerals.{add-one}
+use native.Mathlib.Omega.{arith}
+use borrow.Author.Rules.{sfits_of}
+use borrow.Author.Tests.{not-false}
+use lib.IntN.{pos, ℤ}
+use lib.ListN.{get_or}
+use mir.Syntax.{w64}
+use mir.Val.{to_z}
+use mir.ValLaws.{to_z-of_z}
+use Rattle.lists.specs.Lists.{first_false}
+use Rattle.spec.specs.Code.{as_record}
+use Rattle.spec.specs.Domain.{allows}
+use Rattle.spec.specs.Record.{Record, field_by, records_of}
+use Rattle.compose.specs.Code.{FieldIn, fields_in}
+use Rattle.compose.proofs.Laid.{field_scaled, field_at}
+use Rattle.evaluate.specs.Verdict.{field_checks}
+use Rattle.evaluate.proofs.Rows.{behind-none, fields_end, fields_more, fields-passed, fields-stop}
+use Rattle.evaluate.proofs.checks.failing_field.Goals.{After-allows_value, In-loop-f, Joined-row-f}
+use Rattle.evaluate.proofs.checks.failing_field.Goals as goal
+
+module _ (c : tie.In-loop invariant-loop-f decreases-loop-f) where
+  abbrev start : tie.Start invariant-loop-f decreases-loop-f
+  start = c.before.before.before.before
+
+  abbrev head : ℕ
+  head = get_or start.args.fields.now c.before.loop.f 0
+
+  abbrev end : ℕ
+  end = get_or start.args.fields.now (suc c.before.loop.f) 0
+
+  -- the field of a turn allows its value in a row
+  abbrev allowed : List ℤ → Bool
+  allowed row = allows (field_at start.args.file.now head end) (get_or row c.before.loop.f (pos 0))
+
+  at_field : FieldIn start.args.file.now head end
+  at_field = let w = start.pre.1 in start.pre.0 c.before.loop.f (omega arith)
+
+pub loop-f-init : goal.loop-f-init
+loop-f-init c = (omega arith, behind-none (first_false (field_checks (fields_in c.args.file.now c.args.fields.now) c.args.row.now)), c.requires.3)
+
+pub bounds-raw-f : goal.bounds-raw-f
+bounds-raw-f c = let e = c.requires.2 in omega arith
+
+pub offset_bounds-fields-f : goal.offset_bounds-fields-f
+offset_bounds-fields-f c = let w = c.requires.1 in omega arith
+
+pub bounds-fields-f : goal.bounds-fields-f
+bounds-fields-f c = let w = c.requires.1 in omega arith
+
+pub record_at-h-requires : goal.record_at-h-requires
+record_at-h-requires c =
+    let is = at_field (goal.at.record_at-h-requires c).In-loop-f in
+    let b = is.before in
+    let i = is.inside in
+    omega arith
+
+pub overflow_add-head : goal.overflow_add-head
+overflow_add-head c =
+    let is = at_field (goal.at.overflow_add-head c).In-loop-f in
+    let b = is.before in
+    let i = is.inside in
+    omega arith
+
+pub offset_bounds-fields-f-then-row-f : goal.offset_bounds-fields-f-then-row-f
+offset_bounds-fields-f-then-row-f c = let w = c.requires.1 in omega arith
+
+pub bounds-fields-f-then-row-f : goal.bounds-fields-f-then-row-f
+bounds-fields-f-then-row-f c = let w = c.requires.1 in omega arith
+
+pub part-values-requires : goal.part-values-requires
+part-values-requires c =
+    let i = (goal.at.part-values-requires c).In-loop-f in
+    let is = at_field i in
+    let b = is.before in
+    rw (add-one i.loop-f.f) (omega arith, is.inside)
+
+pub allows_value-requires : goal.allows_value-requires
+allows_value-requires c =
+    let i = (goal.at.allows_value-requires c).In-loop-f in
+    let r = c.record_at-h in
+    (field_scaled r.result (start i).args.file.now (head i) (end i) (at_field i) r.ensures.read).r-natural
+
+-- the answer of allows_value
+tested : (c : After-allows_value) → allowed (record { before = c.before.before.before.before.before.before.before.before.before.before; type_inv = record { fields = c.before.before.before.before.before.before.before.before.before.before.shared_slice_known-2-1.given; file = c.before.before.before.before.before.before.before.before.before.before.shared_slice_known-1.given } }) c.args.row.now ≡ c.allows_value.result
+tested c =
+    let i : In-loop-f = record { before = c.before.before.before.before.before.before.before.before.before.before; type_inv = record { fields = c.before.before.before.before.before.before.before.before.before.before.shared_slice_known-2-1.given; file = c.before.before.before.before.before.before.before.before.before.before.shared_slice_known-1.given } } in
+    let r = c.record_at-h in
+    let p = c.part-values in
+    ap₂ (λ (h : Record) (ms : List Record). allows (field_by h.b h ms) (get_or (start i).args.row.now i.loop-f.f (pos 0))) (sym r.ensures.read) (sym (p.ensures.records ∙ rw (add-one i.loop-f.f, add-one (head i))))
+    ∙ sym (c.allows_value.ensures ∙ ap (allows (field_by r.result.b (as_record r.result) (records_of p.result.now))) (to_z-of_z w64 _ (sfits_of c.allows_value-arg-1.given)))
+
+pub returns-then-not-allows_value : goal.returns-then-not-allows_value
+returns-then-not-allows_value c =
+    let i = (goal.at.returns-then-not-allows_value c).In-loop-f in
+    let s = start i in
+    let l = i.loop-f in
+    sym (l.invariant.1 ∙ fields-stop s.args.file.now s.args.fields.now s.args.row.now l.f s.pre.0 s.pre.1 (omega arith) (tested (goal.at.returns-then-not-allows_value c).After-allows_value ∙ c.if-not-allows_value.true))
+
+-- a value that the turn goes past is allowed: by that answer, or because it is the raw one
+passes : (c : Joined-row-f) → allowed (record { before = c.before.before.before.before; type_inv = record { fields = c.before.before.before.before.shared_slice_known-2-1.given; file = c.before.before.before.before.shared_slice_known-1.given } }) c.args.raw.now ≡ true → allowed (record { before = c.before.before.before.before; type_inv = record { fields = c.before.before.before.before.shared_slice_known-2-1.given; file = c.before.before.before.before.shared_slice_known-1.given } }) c.args.row.now ≡ true
+passes c raw =
+    ⊎_elim
+    (λ u.
+    tested (record { before = record { before = record { before = record { before = record { before = record { before = record { before = (record { before = c.before.before; type_inv = record { fields = c.before.before.shared_slice_known-2-1.given; file = c.before.before.shared_slice_known-1.given } }); if1 = u.0 }; shared-slice-known3 = u.1 }; record-at = u.2 }; shared-slice-known4 = u.3 }; part = u.4 }; t24 = u.5 }; allows-value = u.6 })
+    ∙ not-false _ u.7.left)
+    (λ u.
+    let i : In-loop-f = record { before = c.before.before.before.before; type_inv = record { fields = c.before.before.before.before.shared_slice_known-2-1.given; file = c.before.before.before.before.shared_slice_known-1.given } } in
+    ap (allows (field_at (start i).args.file.now (head i) (end i))) (sym (to_z-of_z w64 _ (sfits_of c.t12-1.given)) ∙ ap (to_z w64) u.left ∙ to_z-of_z w64 _ (sfits_of c.t15-1.given)) ∙ raw)
+    c.if-row-f.branch
+
+pub loop-f-preserved : goal.loop-f-preserved
+loop-f-preserved c =
+    let i = (goal.at.loop-f-preserved c).In-loop-f in
+    let s = start i in
+    let l = i.loop-f in
+    let file = s.args.file.now in
+    let fields = s.args.fields.now in
+    let raw = fields-passed file fields s.args.raw.now l.f s.pre.0 (omega arith) (omega arith) l.invariant.2 in
+    (omega arith, l.invariant.1 ∙ fields_more file fields s.args.row.now l.f s.pre.0 s.pre.1 (omega arith) (passes (goal.at.loop-f-preserved c).Joined-row-f raw.0), raw.1)
+
+pub returns : goal.returns
+returns c =
+    let l = c.loop-f in
+    sym (l.invariant.1 ∙ fields_end c.args.file.now c.args.fields.now c.args.row.now l.f c.requires.0 c.requires.1 (omega arith))

@@ -1,0 +1,13 @@
+-- `evaluate::indexing::index_heads` meets its contract. The invariant: nothing is indexed from the head before k on.
+use mathlib.Core.Path.{◌≡◌}
+use Prim.Native.Nat.{◌-◌, ◌≤◌}
+use lib.ListN.{get_or, length}
+use Rattle.registry.specs.Index.{IndexIn}
+use Rattle.evaluate.specs.Code.{Unindexed}
+use Rattle.evaluate.proofs.indexing.index_heads.Given as goal
+
+abbrev pub invariant-loop-k : goal.invariant-loop-k
+invariant-loop-k l = (1 ≤ l.k) × (length l.index ≡ length l.initial.index) × (length l.spare ≡ length l.initial.spare) × IndexIn l.file l.index × Unindexed l.index (get_or l.heads (l.k - 1) 0)
+
+abbrev pub decreases-loop-k : goal.decreases-loop-k
+decreases-loop-k l = length l.heads - l.k

@@ -1,0 +1,35 @@
+-- `exports::page_into` meets its contract.
+use mathlib.Core.Bool.{true}
+use mathlib.Core.List.{List, ◌∷◌}
+use mathlib.Core.Path.{◌∙◌, ap, refl, sym}
+use Prim.Native.Nat.{ℕ}
+use lib.ListN.{length}
+use Rattle.lists.specs.Lists.{over}
+use Rattle.spec.specs.Refusal.{accepted, refused}
+use Rattle.compose.specs.Code.{as_engine}
+use Rattle.classifier.specs.Code.{as_page, as_start}
+use Rattle.classifier.specs.Page.{page_answer}
+use Rattle.classifier.specs.declared.page.Answer as code
+use Rattle.exports.specs.Calls.{answer_words, page_words}
+use Rattle.exports.proofs.Words.{answered, flag-number, last_none}
+use Rattle.exports.proofs.page_into.Goals as goal
+
+pub returns-in-Refused : goal.returns-in-Refused
+returns-in-Refused c =
+    let a = c.args in
+    let page = c.page-paged in
+    let told = c.answer-1.given in
+    let put = c.put_page in
+    let is = ap (λ (v : code.Answer). as_page v page.result.last) (sym told.1) ∙ page.ensures.answer in
+    let given = answered (answer_words 34 page_words) (refused (record { number = told.0.0.number; at = told.0.0.record })) (page_answer (as_engine a.engine) (length a.scratch.now) (length a.out.now) a.file.now (as_start a.start)) true refl is put.new.0 a.words.now (put.ensures ∙ ap (λ (t : List ℕ). over (told.0.0.number ∷ told.0.0.record ∷ t) a.words.now) (last_none (page_answer (as_engine a.engine) (length a.scratch.now) (length a.out.now) a.file.now (as_start a.start)) ((record { number = told.0.0.number; at = told.0.0.record })) page.result.last is page.ensures.last)) in
+    let whole = (given.0, (given.1, page.ensures.1.1)) in record { status = whole.0; words = whole.1.0; out = whole.1.1.0; scratch = whole.1.1.1 }
+
+pub returns-in-Written : goal.returns-in-Written
+returns-in-Written c =
+    let a = c.args in
+    let page = c.page-paged in
+    let told = c.answer-in-Written-1.given in
+    let put = c.put_page-in-Written in
+    let is = ap (λ (v : code.Answer). as_page v page.result.last) (sym told.1) ∙ page.ensures.answer in
+    let given = answered (answer_words 34 page_words) (accepted (record { count = told.0.0; last = page.result.last; done = told.0.1.0 })) (page_answer (as_engine a.engine) (length a.scratch.now) (length a.out.now) a.file.now (as_start a.start)) true refl is put.new.0 a.words.now (put.ensures ∙ ap (λ (k : ℕ). over (told.0.0 ∷ k ∷ page.result.last) a.words.now) (flag-number told.0.1.0)) in
+    let whole = (given.0, (given.1, page.ensures.1.1)) in record { status = whole.0; words = whole.1.0; out = whole.1.1.0; scratch = whole.1.1.1 }

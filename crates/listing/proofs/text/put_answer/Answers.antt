@@ -1,0 +1,33 @@
+-- Each arm is told which answer came, and its line stands at the start of the text.
+use mathlib.Core.Path.{◌∙◌, ◌≡◌, ap, sym}
+use native.Mathlib.Omega.{arith}
+use borrow.Author.Rules.{rules}
+use lib.ListN.{length}
+use lib.Seq.{sets}
+use Rattle.spec.specs.Code.{as_answer}
+use Rattle.spec.specs.declared.validate.Validation.{Validation}
+use Rattle.spec.specs.declared.validate.Validation.TheVariants.{Refused}
+use Rattle.listing.specs.Text.{accepted_line, answer_line}
+use Rattle.listing.proofs.Buffer.{put_first}
+use Rattle.listing.proofs.text.put_answer.Goals as goal
+
+pub returns-in-Accepted : goal.returns-in-Accepted
+returns-in-Accepted c =
+    let put = c.put_accepted in
+    let shape = c.judged-1.given in
+    let args = c.args in
+    let room : length args.text.now ≡ 64 = search rules in
+    let stands = put_first args.text.now put.new.0 (accepted_line shape.0.0.total) put.result put.ensures.out_after put.ensures.value (omega (arith, put.ensures.upper_bound)) in
+    let same = ap (λ (v : Validation). answer_line (as_answer v)) (sym shape.1) in
+    record { prefix_len = stands.0; text_after = stands.1 ∙ same; text_after_2 = put.ensures.out_after ∙ ap (sets args.text.now 0) same }
+
+pub returns-in-Refused : goal.returns-in-Refused
+returns-in-Refused c =
+    let put = c.Put-refused in
+    let refusal = c.judged-in-Refused-1.given in
+    let args = c.args in
+    let room : length args.text.now ≡ 64 = search rules in
+    let line = answer_line (as_answer (Refused refusal.0.0)) in
+    let stands = put_first args.text.now put.new.0 line put.result put.ensures.0 put.ensures.1.0 (omega (arith, put.ensures.1.1)) in
+    let same = ap (λ (v : Validation). answer_line (as_answer v)) (sym refusal.1) in
+    record { prefix_len = stands.0; text_after = stands.1 ∙ same; text_after_2 = put.ensures.0 ∙ ap (sets args.text.now 0) same }

@@ -1,0 +1,50 @@
+-- By the room; each piece stands right after the one before it.
+use mathlib.Core.List.{◌++◌}
+use mathlib.Core.Path.{refl}
+use native.Mathlib.Omega.{arith}
+use lib.ListN.{length-append}
+use Rattle.listing.specs.Text.{decimal, end_line, end_word, newline, spaced}
+use Rattle.listing.proofs.Buffer.{put_after, room_no, room_yes}
+use Rattle.listing.proofs.text.put_end.Goals as goal
+
+pub returns-then-out-at : goal.returns-then-out-at
+returns-then-out-at c =
+    let args = c.args in
+    let whole = rw (room_no args.out.now args.at 88 (omega arith)) (refl, refl) in record { out_after = whole.0; value = whole.1 }
+
+pub returns-then-out-at-lt88 : goal.returns-then-out-at-lt88
+returns-then-out-at-lt88 c =
+    let args = c.args in
+    let whole = rw (room_no args.out.now args.at 88 (omega arith)) (refl, refl) in record { out_after = whole.0; value = whole.1 }
+
+pub returns : goal.returns
+unfolding end_line
+returns c =
+    let byte = c.put_byte in
+        let fourth = c.put_spaced-end in
+    let thirds = (goal.at.returns c).After-put_spaced-failed in
+    let third = thirds.put_spaced-failed in
+    let seconds = thirds.before.before.before.before in
+    let second = seconds.put_spaced-passed in
+    let firsts = seconds.before.before.before.before in
+    let first = firsts.put_spaced-emitted in
+    let word = firsts.put_word-totals in
+    let room = firsts.before.before.before.before.before.before.before in
+    let args = room.args in
+    let total = spaced (decimal args.c.total) in
+    let emitted = spaced (decimal args.c.emitted) in
+    let passed = spaced (decimal args.c.passed) in
+    let failed = spaced (decimal args.c.failed) in
+    let last = byte.new.0 in
+    let from-failed = put_after third.new.0 fourth.new.0 last third.result fourth.result failed newline fourth.ensures.out_after fourth.ensures.value byte.ensures.out_after in
+    let from-passed = put_after second.new.0 third.new.0 last second.result third.result passed (failed ++ newline) third.ensures.out_after third.ensures.value from-failed in
+    let from-emitted = put_after first.new.0 second.new.0 last first.result second.result emitted (passed ++ (failed ++ newline)) second.ensures.out_after second.ensures.value from-passed in
+    let from-total = put_after word.new.0 first.new.0 last word.result first.result total (emitted ++ (passed ++ (failed ++ newline))) first.ensures.out_after first.ensures.value from-emitted in
+    let total-long = length-append (decimal args.c.total) (emitted ++ (passed ++ (failed ++ newline))) in
+    let emitted-long = length-append (decimal args.c.emitted) (passed ++ (failed ++ newline)) in
+    let passed-long = length-append (decimal args.c.passed) (failed ++ newline) in
+    let failed-long = length-append (decimal args.c.failed) newline in
+    let whole = rw (room_yes args.out.now args.at 88 (omega (arith, room.if-out-at.false, room.if-out-at-lt88.false))) (
+      put_after args.out.now word.new.0 last args.at word.result end_word (total ++ (emitted ++ (passed ++ (failed ++ newline)))) word.ensures.out_after word.ensures.value from-total,
+      omega (arith, word.ensures.value, first.ensures.value, second.ensures.value, third.ensures.value, fourth.ensures.value, byte.ensures.value, total-long, emitted-long, passed-long, failed-long),
+    ) in record { out_after = whole.0; value = whole.1 }

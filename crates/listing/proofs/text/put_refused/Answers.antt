@@ -1,0 +1,20 @@
+-- Each piece stands right after the one before it; the room is enough since a number has at most 20 digits.
+use mathlib.Core.List.{◌++◌}
+use native.Mathlib.Omega.{arith}
+use lib.ListN.{length-append}
+use Rattle.listing.specs.Text.{decimal, spaced, newline, refused_word, refused_line}
+use Rattle.listing.proofs.Buffer.{put_after}
+use Rattle.listing.proofs.text.put_refused.Goals as goal
+
+pub returns : goal.returns
+unfolding refused_line
+returns c =
+    let byte = c.put_byte in
+    let second = c.put_spaced-end in
+    let first = c.put_spaced-records in
+    let word = c.put_word-numbers in
+    let args = c.args in
+    let number = spaced (decimal args.number) in
+    let place = spaced (decimal args.record-number) in
+    let tail = put_after first.new.0 second.new.0 byte.new.0 first.result second.result place newline second.ensures.out_after second.ensures.value byte.ensures.out_after in
+    let numbers = put_after word.new.0 first.new.0 byte.new.0 word.result first.result number (place ++ newline) first.ensures.out_after first.ensures.value tail in record { out_after = put_after args.out.now word.new.0 byte.new.0 args.at word.result refused_word (number ++ (place ++ newline)) word.ensures.out_after word.ensures.value numbers; value = omega (arith, word.ensures.value, first.ensures.value, second.ensures.value, byte.ensures.value, length-append (decimal args.number) (place ++ newline), length-append (decimal args.record-number) newline); upper_bound = omega (arith, word.ensures.value, first.ensures.upper_bound, second.ensures.upper_bound, byte.ensures.value) }

@@ -1,0 +1,39 @@
+-- The invariant: with the text of the numbers to come put, the buffer holds the text of them all.
+use mathlib.Core.Path.{ap, refl}
+use Prim.Native.Nat.{◌+◌, ◌-◌}
+use native.Mathlib.Omega.{arith}
+use borrow.Author.Rules.{sfits_of}
+use lib.IntN.{pos}
+use lib.ListN.{drop, drop_of_length-le, get_or, length}
+use lib.Seq.{sets}
+use mir.Syntax.{w64}
+use mir.ValLaws.{to_z-of_z}
+use Rattle.listing.specs.Text.{signed_decimal, spaced}
+use Rattle.listing.proofs.Buffer.{left_end, left_more, pieces_more}
+use Rattle.listing.proofs.text.put_values.Invariants.{values_text}
+use Rattle.listing.proofs.text.put_values.Goals as goal
+
+pub loop-i-init : goal.loop-i-init
+loop-i-init c = (omega arith, refl, omega arith, (refl, refl))
+
+pub loop-i-preserved : goal.loop-i-preserved
+loop-i-preserved c =
+    let here = c.loop-i in
+    let args = c.args in
+    let numbers = args.numbers.now in
+    let put = c.put_value-next in
+    let number = get_or numbers here.i (pos 0) in
+    let piece = spaced (signed_decimal number) in
+    let puts = rw (to_z-of_z w64 number (sfits_of c.put_value-arg-in-loop-i-1.given)) at put.ensures in
+    (omega arith, omega arith, omega (arith, puts.1.1), left_more (sets args.out.now args.at (values_text numbers)) (args.at + length (values_text numbers)) here.out put.new.0 here.next put.result piece (values_text (drop (here.i + 1) numbers)) (values_text (drop here.i numbers)) (pieces_more (λ x. spaced (signed_decimal x)) numbers here.i (pos 0) (omega arith)) puts.0 puts.1.0 here.invariant.3)
+
+pub shape_of-out : goal.shape_of-out
+shape_of-out c = c.loop-i.invariant.1
+
+pub returns : goal.returns
+returns c =
+    let here = c.loop-i in
+    let args = c.args in
+    let numbers = args.numbers.now in
+    let ends = left_end (sets args.out.now args.at (values_text numbers)) (args.at + length (values_text numbers)) here.out here.next (values_text (drop here.i numbers)) (ap values_text (drop_of_length-le numbers {i = here.i} (omega arith))) here.invariant.3 in
+    record { out_after = ends.0; value = ends.1; upper_bound = omega arith }

@@ -1,0 +1,48 @@
+-- By the three tests.
+use mathlib.Core.Bool.{true}
+use mathlib.Core.Logic.{inl, inr}
+use mathlib.Core.Path.{◌≡◌, refl}
+use Prim.Native.Nat.{◌*◌, ◌≤◌}
+use native.Mathlib.Omega.{arith}
+use borrow.Author.Rules.{rules}
+use lib.ListN.{length}
+use Rattle.listing.specs.Words.{can_list}
+use Rattle.listing.proofs.Lines.{lines_fit, lines_over, listed, not_listed}
+use Rattle.listing.proofs.text.put_verdicts.Goals.{Else-out-count, Else-words-width}
+use Rattle.listing.proofs.text.put_verdicts.Goals as goal
+
+pub returns-then-width-lt4 : goal.returns-then-width-lt4
+returns-then-width-lt4 c =
+    let args = c.args in
+    let whole = rw (not_listed args.out.now args.words.now args.count args.width (inl (omega (arith, c.if-width-lt4.true)))) (refl, (refl, omega arith)) in record { out_after = whole.0; value = whole.1.0; upper_bound = whole.1.1 }
+
+pub returns-then-words-width : goal.returns-then-words-width
+returns-then-words-width c =
+    let args = c.args in
+    let few = lines_over args.count args.width (length args.words.now) (omega (arith, c.if-width-lt4.false)) c.if-words-width.true in
+    let whole = rw (not_listed args.out.now args.words.now args.count args.width (inr (inl few))) (refl, (refl, omega arith)) in record { out_after = whole.0; value = whole.1.0; upper_bound = whole.1.1 }
+
+-- there are as many words
+many : (c : Else-words-width) → c.args.count * c.args.width ≤ length c.args.words.now
+many c = let args = c.args in lines_fit args.count args.width (length args.words.now) (omega (arith, c.if-width-lt4.false)) c.if-words-width.false
+
+pub overflow_mul-count : goal.overflow_mul-count
+overflow_mul-count c = let h = many (goal.at.overflow_mul-count c).Else-words-width in search rules
+
+pub returns-then-out-count : goal.returns-then-out-count
+returns-then-out-count c =
+    let args = c.args in
+    let whole = rw (not_listed args.out.now args.words.now args.count args.width (inr (inr (omega (arith, c.if-out-count.true))))) (refl, (refl, omega arith)) in record { out_after = whole.0; value = whole.1.0; upper_bound = whole.1.1 }
+
+can : (c : Else-out-count) → let args = c.args in can_list args.out.now args.words.now args.count args.width ≡ true
+can c =
+    let args = c.args in
+    listed args.out.now args.words.now args.count args.width (omega (arith, c.if-width-lt4.false)) (many (record { before = c.before.before; type_inv = record { out = c.before.before.slice_known-1.given } })) (omega (arith, c.if-out-count.false))
+
+pub put_lines-requires : goal.put_lines-requires
+put_lines-requires c = can (goal.at.put_lines-requires c).Else-out-count
+
+pub returns : goal.returns
+returns c =
+    let put = c.put_lines in
+    let whole = rw (can (goal.at.returns c).Else-out-count) (put.ensures.out_after, (omega (arith, put.ensures.value), put.ensures.upper_bound)) in record { out_after = whole.0; value = whole.1.0; upper_bound = whole.1.1 }

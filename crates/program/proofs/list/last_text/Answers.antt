@@ -1,0 +1,42 @@
+-- By what `count` answered; its line stands at the start of the text.
+use borrow.Author.Rules.{rules}
+use Prim.Native.Nat.{◌<◌, ◌^◌}
+use Rattle.program.proofs.Printing.{end_short, put_line_lem, refused_short}
+use Rattle.listing.proofs.Buffer.{room_yes}
+use Rattle.listing.specs.Text.{end_line, refusal, refused_line}
+use Rattle.classifier.specs.Code.{as_counted, as_counts}
+use Rattle.classifier.specs.declared.count.Counted.{Counted}
+use Rattle.program.specs.Printed.{last_line}
+use mathlib.Core.Path.{◌∙◌, ◌≡◌, ap, sym}
+use native.Mathlib.Omega.{arith}
+use lib.ListN.{length}
+use Rattle.program.proofs.list.last_text.Goals as goal
+
+pub returns-in-Refused : goal.returns-in-Refused
+returns-in-Refused c =
+    let put = c.put_refusal in
+    let told = c.r-1.given in
+    let r = told.0.0 in
+    let counted = c.count in
+    let old = c.args.text.now in
+    let room : length old ≡ 96 = search rules in
+    let number : r.number < 2 ^ 64 = search rules in
+    let at : r.record < 2 ^ 64 = search rules in
+    let line = refused_line (refusal r.number r.record) in
+    let stands = put_line_lem old put.new.0 line put.result _ (room_yes old 0 50 (omega arith)) put.ensures.out_after put.ensures.value (omega (arith, refused_short (refusal r.number r.record) number at)) in
+    record { counted = stands.0; line = stands.1 ∙ ap (λ (v : Counted). last_line (as_counted v)) (sym told.1) ∙ ap last_line counted.ensures.answer }
+
+pub returns-in-Counted : goal.returns-in-Counted
+returns-in-Counted c =
+    let put = c.put_end in
+    let told = c.c-1.given in
+    let n = told.0.0 in
+    let counted = c.count in
+    let old = c.args.text.now in
+    let room : length old ≡ 96 = search rules in
+    let total : n.total < 2 ^ 64 = search rules in
+    let emitted : n.emitted < 2 ^ 64 = search rules in
+    let passed : n.passed < 2 ^ 64 = search rules in
+    let failed : n.failed < 2 ^ 64 = search rules in
+    let stands = put_line_lem old put.new.0 (end_line (as_counts n)) put.result _ (room_yes old 0 88 (omega arith)) put.ensures.out_after put.ensures.value (omega (arith, end_short (as_counts n) total emitted passed failed)) in
+    record { counted = stands.0; line = stands.1 ∙ ap (λ (v : Counted). last_line (as_counted v)) (sym told.1) ∙ ap last_line counted.ensures.answer }
