@@ -10,7 +10,7 @@ use Rattle.classifier.proofs.Starts.{given_start, late_14, late_15, not-given}
 use Rattle.classifier.proofs.page.late_number.Goals.{Else-not-start, Start}
 use Rattle.classifier.proofs.page.late_number.Goals as goal
 
-module _ (s : tie.Start) where
+module _ (s : Start) where
   abbrev plan : Plan
   plan = plan_in s.args.file.now s.args.scratch.now s.args.lists.now s.args.maps.now s.args.order.now
 

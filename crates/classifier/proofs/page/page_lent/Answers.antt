@@ -17,7 +17,7 @@ use Rattle.classifier.proofs.Late.{fieldless, gives_page, gives_refused, late_no
 use Rattle.classifier.proofs.Starts.{Wide, start_wide}
 use Rattle.classifier.proofs.Walked.{order-long, order-opened, order_room}
 use Rattle.lists.specs.Lists.{over}
-use Rattle.classifier.proofs.page.page_lent.Goals.{Start}
+use Rattle.classifier.proofs.page.page_lent.Goals.{After-order-2-1, After-prepare-number, Else-late-ne0, Else-number-ne0, Start}
 use Rattle.classifier.proofs.page.page_lent.Goals as goal
 
 start_long : (s : Start) → Wide (as_start s.args.start)
@@ -36,59 +36,52 @@ pub prepare-number-requires : goal.prepare-number-requires
 prepare-number-requires c = (c.requires.0, omega (arith, c.requires.1, room_domains (decoded c.args.file.now)), refl, refl, refl)
 
 -- the plan that was laid
-module _ (c : tie.After-prepare) where
-  abbrev p-start : tie.Start
-  p-start = c.before.before.before.before.before.before.before
+module _ (c : After-prepare-number) where
 
   abbrev order : List ℕ
-  order = take p-start.args.shape.fields c.prepare.new.1.1.1.1.1.1.1.1.0
+  order = take c.args.shape.fields c.prepare-number.new.1.1.1.1.1.1.1.1.0
 
   abbrev plan : Plan
-  plan = plan_in p-start.args.file.now c.prepare.new.1.1.1.1.1.0 c.prepare.new.1.1.1.1.1.1.0 c.prepare.new.1.1.1.1.1.1.1.0 order
+  plan = plan_in c.args.file.now c.prepare-number.new.1.1.1.1.1.0 c.prepare-number.new.1.1.1.1.1.1.0 c.prepare-number.new.1.1.1.1.1.1.1.0 order
 
-  few : p-start.args.shape.fields ≤ length c.prepare.new.1.1.1.1.1.1.1.1.0
-  few = let s = p-start in order_room s.args.file.now s.args.heads.now s.args.shape.fields s.args.shape.constraints s.pre.0 c.prepare.new.1.1.1.1.1.1.1.1.0 c.prepare.auto.1.1.1.1.1.1.1.1.0
+  few : c.args.shape.fields ≤ length c.prepare-number.new.1.1.1.1.1.1.1.1.0
+  few = let s = p-start in order_room s.args.file.now s.args.heads.now s.args.shape.fields s.args.shape.constraints s.requires.0 c.prepare-number.new.1.1.1.1.1.1.1.1.0 c.prepare-number.auto.1.1.1.1.1.1.1.1.0
 
-  long : length order ≡ p-start.args.shape.fields
-  long = let s = p-start in order-long s.args.file.now s.args.heads.now s.args.shape.fields s.args.shape.constraints s.pre.0 c.prepare.new.1.1.1.1.1.1.1.1.0 c.prepare.auto.1.1.1.1.1.1.1.1.0
+  long : length order ≡ c.args.shape.fields
+  long = let s = p-start in order-long s.args.file.now s.args.heads.now s.args.shape.fields s.args.shape.constraints s.requires.0 c.prepare-number.new.1.1.1.1.1.1.1.1.0 c.prepare-number.auto.1.1.1.1.1.1.1.1.0
 
-  opened : Opened p-start.args.file.now p-start.args.heads.now (length order) p-start.args.shape.constraints
-  opened = let s = p-start in order-opened s.args.file.now s.args.heads.now s.args.shape.fields s.args.shape.constraints s.pre.0 c.prepare.new.1.1.1.1.1.1.1.1.0 c.prepare.auto.1.1.1.1.1.1.1.1.0
+  opened : Opened c.args.file.now c.args.heads.now (length order) c.args.shape.constraints
+  opened = let s = p-start in order-opened s.args.file.now s.args.heads.now s.args.shape.fields s.args.shape.constraints s.requires.0 c.prepare-number.new.1.1.1.1.1.1.1.1.0 c.prepare-number.auto.1.1.1.1.1.1.1.1.0
 
 -- neither 12 nor 13
-module _ (c : tie.Else1) where
-  abbrev laid : tie.After-prepare
-  laid = c.before.before.before.before.before
+module _ (c : Else-number-ne0) where
 
-  abbrev e-start : tie.Start
-  e-start = c.before.before.before.before.before.before.before.before.before.before.before.before
+  sound : sound_number (as_engine c.args.engine) (decoded c.args.file.now) ≡ 0
+  sound = sym c.prepare-number.ensures.number ∙ c.if-number-ne0.false
 
-  sound : sound_number (as_engine e-start.args.engine) (decoded e-start.args.file.now) ≡ 0
-  sound = sym laid.prepare.ensures.0 ∙ c.if1.false
+  planned : Planned (as_engine c.args.engine) c.args.file.now c.prepare-number.last.1.1.1.1.1.0 c.prepare-number.last.1.1.1.1.1.1.0 c.prepare-number.last.1.1.1.1.1.1.1.0 (order laid)
+  planned = c.prepare-number.ensures.plan c.if-number-ne0.false
 
-  planned : Planned (as_engine e-start.args.engine) e-start.args.file.now laid.prepare.last.1.1.1.1.1.0 laid.prepare.last.1.1.1.1.1.1.0 laid.prepare.last.1.1.1.1.1.1.1.0 (order laid)
-  planned = laid.prepare.ensures.1.1 c.if1.false
-
-  no_start : is_none (due (as_engine e-start.args.engine) (decoded e-start.args.file.now) (as_start e-start.args.start)) ≡ not (is_start (plan laid) (as_start e-start.args.start))
+  no_start : is_none (due (as_engine c.args.engine) (decoded c.args.file.now) (as_start c.args.start)) ≡ not (is_start (plan laid) (as_start c.args.start))
   no_start =
       let s = e-start in
-      let q = laid.prepare in
+      let q = c.prepare-number in
       none-due (as_engine s.args.engine) s.args.file.now s.args.heads.now s.args.shape.constraints q.last.1.1.1.1.1.0 q.last.1.1.1.1.1.1.0 q.last.1.1.1.1.1.1.1.0 (order laid) (opened laid) planned sound (as_start s.args.start) (start_long s)
 
 -- nor 14 nor 15
-module _ (c : tie.Else2) where
-  abbrev n-start : tie.Start
+module _ (c : Else-late-ne0) where
+  abbrev n-start : Start
   n-start = c.before.before.before.before.before.before.before.before.before.before.before.before.before.before.before.before.before.before
 
   not_late : late_fault (as_engine n-start.args.engine) (decoded n-start.args.file.now) (length n-start.args.out.now) (as_start n-start.args.start) ≡ none
   not_late =
       let s = n-start in
-      let n = c.before.late-number in
-      let e = c.before.before.before.before.before.before in
-      late_none (as_engine s.args.engine) (decoded s.args.file.now) (length s.args.out.now) (as_start s.args.start) (plan (laid e)) (planned e).plan-is (sound e) (no_start e) n.result n.ensures c.if2.false
+      let n = c.late_number-late in
+      let e : After-order-2-1 = record { before = c.before.before.before.before.before.before.before; type_inv = record { heads = c.shared_slice_known-2-1.given; file = c.shared_slice_known-1.given } } in
+      late_none (as_engine s.args.engine) (decoded s.args.file.now) (length s.args.out.now) (as_start s.args.start) (plan (laid e)) (planned e).plan-is (sound e) (no_start e) n.result n.ensures c.if-late-ne0.false
 
-  begins : is_start (plan c.before.before.before.before.before.before.before.before.before.before.before) (as_start n-start.args.start) ≡ true
-  begins = let s = n-start in late_start (as_engine s.args.engine) (decoded s.args.file.now) (length s.args.out.now) (as_start s.args.start) (plan c.before.before.before.before.before.before.before.before.before.before.before) c.before.late-number.result c.before.late-number.ensures c.if2.false
+  begins : is_start (plan (record { before = c.before.before.before.before.before.before.before.before.before.before.before.before; type_inv = record { heads = c.shared_slice_known-2-1.given; file = c.shared_slice_known-1.given } })) (as_start n-start.args.start) ≡ true
+  begins = let s = n-start in late_start (as_engine s.args.engine) (decoded s.args.file.now) (length s.args.out.now) (as_start s.args.start) (plan (record { before = c.before.before.before.before.before.before.before.before.before.before.before.before; type_inv = record { heads = c.shared_slice_known-2-1.given; file = c.shared_slice_known-1.given } })) c.late_number-late.result c.late_number-late.ensures c.if-late-ne0.false
 
 pub returns-then-number-ne0 : goal.returns-then-number-ne0
 returns-then-number-ne0 c =

@@ -27,10 +27,10 @@ use Rattle.classifier.proofs.Paging.{Ends, Writing, next_fewer, page_finished, p
 use Rattle.classifier.proofs.Starts.{Wide, start_wide}
 use Rattle.classifier.proofs.Turning.{due_in, turn_asks, words_long, words_verdict, words_in}
 use Rattle.classifier.proofs.Walked.{file_short, lent_few, rules_part, walking_walks, walking_wide}
-use Rattle.classifier.proofs.page.write_page.Goals.{After-loop-more, Else-out-at}
+use Rattle.classifier.proofs.page.write_page.Goals.{After-enables_of-many, After-first_of-from, After-loop-more, At-loop-more, Else-out-at, In-loop-more, Start}
 use Rattle.classifier.proofs.page.write_page.Goals as goal
 
-module _ (s : tie.Start invariant-loop-more decreases-loop-more) where
+module _ (s : Start) where
   abbrev plan : Plan
   plan = plan_in s.args.file.now s.args.scratch.now s.args.lists.now s.args.maps.now s.args.order.now
 
@@ -61,70 +61,66 @@ module _ (c : tie.After-enables-of invariant-loop-more decreases-loop-more) wher
   kinds = let s = e-start in subst (λ (r : List ℕ). ChosenFrom s.args.file.now r 0 20 22 numbers) (rules_part s.args.heads.now (length s.args.order.now) s.args.c) c.enables-of.ensures.1.0.1
 
 -- the first step
-module _ (c : tie.After-first-of invariant-loop-more decreases-loop-more) where
-  abbrev f-start : tie.Start invariant-loop-more decreases-loop-more
-  f-start = c.before.before.before.before.before.before.before.before.before.before.before.before.before.before.before
+module _ (c : After-first_of-from) where
 
-  begun : Begun (plan (f-start)) (length f-start.args.order.now) c.first_of.result.tuple
+  begun : Begun (plan (f-start)) (length c.args.order.now) c.first_of-from.result.tuple
   begun =
       let s = f-start in
-      subst (λ (r : Stepped). Begun (plan s) (length s.args.order.now) r.tuple) (sym c.first_of.ensures) (going_begun (as_engine s.args.engine) s.args.file.now s.args.heads.now s.args.c s.args.checks.now s.args.due.now s.args.scratch.now s.args.lists.now s.args.maps.now s.args.order.now s.pre.0 (as_start s.args.start) (start_long s) s.pre.3)
+      subst (λ (r : Stepped). Begun (plan s) (length s.args.order.now) r.tuple) (sym c.first_of-from.ensures) (going_begun (as_engine s.args.engine) s.args.file.now s.args.heads.now s.args.c s.args.checks.now s.args.due.now s.args.scratch.now s.args.lists.now s.args.maps.now s.args.order.now s.requires.0 (as_start s.args.start) (start_long s) s.requires.3)
 
-  front_long : length (take (length f-start.args.order.now) c.first_of.result.tuple) ≡ length f-start.args.order.now
-  front_long = let s = f-start in length-take-le (length s.args.order.now) c.first_of.result.tuple (omega (arith, begun.long, s.pre.0.planned.plan-in.places.few))
+  front_long : length (take (length c.args.order.now) c.first_of-from.result.tuple) ≡ length c.args.order.now
+  front_long = let s = f-start in length-take-le (length s.args.order.now) c.first_of-from.result.tuple (omega (arith, begun.long, s.requires.0.planned.plan-in.places.few))
 
 -- the loop
-module _ (c : tie.At-loop invariant-loop-more decreases-loop-more) where
-  abbrev l-start : tie.Start invariant-loop-more decreases-loop-more
-  l-start = c.before.before.before.before.before.before.before.before.before.before.before.before.before.before.before.before.before.before.before.before.before.before
+module _ (c : At-loop-more) where
 
-  wide-out : length c.loop.out ≡ length l-start.args.out.now
-  wide-out = writing_wide _ _ _ _ _ c.loop.at c.loop.count c.loop.last c.loop.out c.loop.invariant.0
+  wide-out : length c.loop-more.out ≡ length c.args.out.now
+  wide-out = writing_wide _ _ _ _ _ c.loop-more.at c.loop-more.count c.loop-more.last c.loop-more.out c.loop-more.invariant.0
 
-  inside : c.loop.at ≤ length c.loop.out
-  inside = omega (arith, c.loop.invariant.0.within, wide-out)
+  inside : c.loop-more.at ≤ length c.loop-more.out
+  inside = omega (arith, c.loop-more.invariant.0.within, wide-out)
 
   -- what is due, and the words, are those of the definition
-  due-is : due_tuples (as_engine l-start.args.engine) (decoded l-start.args.file.now) (as_start l-start.args.start) ≡ due_in (plan (l-start)) (length l-start.args.order.now) c.before.before.before.before.before.before.before.first_of.result.more c.before.before.before.before.before.before.before.first_of.result.tuple
+  due-is : due_tuples (as_engine c.args.engine) (decoded c.args.file.now) (as_start c.args.start) ≡ due_in (plan (l-start)) (length c.args.order.now) c.first_of-from.result.more c.first_of-from.result.tuple
   due-is =
       let s = l-start in
-      going_due (as_engine s.args.engine) s.args.file.now s.args.heads.now s.args.c s.args.checks.now s.args.due.now s.args.scratch.now s.args.lists.now s.args.maps.now s.args.order.now s.pre.0 (as_start s.args.start) (start_long s) s.pre.3 ∙ ap (λ (r : Stepped). due_in (plan s) (length s.args.order.now) r.more r.tuple) (sym c.before.before.before.before.before.before.before.first_of.ensures)
+      going_due (as_engine s.args.engine) s.args.file.now s.args.heads.now s.args.c s.args.checks.now s.args.due.now s.args.scratch.now s.args.lists.now s.args.maps.now s.args.order.now s.requires.0 (as_start s.args.start) (start_long s) s.requires.3 ∙ ap (λ (r : Stepped). due_in (plan s) (length s.args.order.now) r.more r.tuple) (sym c.first_of-from.ensures)
 
-  writing : Writing (λ t. words (verdict_of (as_engine l-start.args.engine) (decoded l-start.args.file.now) t)) (length l-start.args.order.now + 4) l-start.args.out.now (due_tuples (as_engine l-start.args.engine) (decoded l-start.args.file.now) (as_start l-start.args.start)) (start_tuple (as_start l-start.args.start)) c.loop.at c.loop.count c.loop.last c.loop.out
+  writing : Writing (λ t. words (verdict_of (as_engine c.args.engine) (decoded c.args.file.now) t)) (length c.args.order.now + 4) c.args.out.now (due_tuples (as_engine c.args.engine) (decoded c.args.file.now) (as_start c.args.start)) (start_tuple (as_start c.args.start)) c.loop-more.at c.loop-more.count c.loop-more.last c.loop-more.out
   writing =
       let s = l-start in
-      let l = c.loop in
-      let e = c.before.before.before.before.before.before.before.before.before in
-      subst (λ (w : List ℕ → List ℤ). Writing w (length s.args.order.now + 4) s.args.out.now (due_tuples (as_engine s.args.engine) (decoded s.args.file.now) (as_start s.args.start)) (start_tuple (as_start s.args.start)) l.at l.count l.last l.out) (words_verdict (as_engine s.args.engine) s.args.file.now s.args.heads.now s.args.c s.args.checks.now s.args.due.now s.args.scratch.now s.args.lists.now s.args.maps.now s.args.order.now s.pre.0 (numbers e) (chosen e) (kinds e))
+      let l = c.loop-more in
+      let e : After-enables_of-many = record { before = c.before.before.before.before.before.before.before.before.before.before; type_inv = record { cells = c.shared_slice_known-10-1.given; tables = c.shared_slice_known-9-1.given; order = c.shared_slice_known-8-1.given; maps = c.shared_slice_known-7-1.given; lists = c.shared_slice_known-6-1.given; index = c.shared_slice_known-5-1.given; due = c.shared_slice_known-4-1.given; checks = c.shared_slice_known-3-1.given; heads = c.shared_slice_known-2-1.given; file = c.shared_slice_known-1.given } } in
+      subst (λ (w : List ℕ → List ℤ). Writing w (length s.args.order.now + 4) s.args.out.now (due_tuples (as_engine s.args.engine) (decoded s.args.file.now) (as_start s.args.start)) (start_tuple (as_start s.args.start)) l.at l.count l.last l.out) (words_verdict (as_engine s.args.engine) s.args.file.now s.args.heads.now s.args.c s.args.checks.now s.args.due.now s.args.scratch.now s.args.lists.now s.args.maps.now s.args.order.now s.requires.0 (numbers e) (chosen e) (kinds e))
       (subst (λ (ts : List (List ℕ)). Writing (words_in s.args.file.now s.args.heads.now (length s.args.order.now) s.args.c (plan s).lists (numbers e)) (length s.args.order.now + 4) s.args.out.now ts (start_tuple (as_start s.args.start)) l.at l.count l.last l.out) (sym due-is)
-      (subst (λ (t : List ℕ). Writing (words_in s.args.file.now s.args.heads.now (length s.args.order.now) s.args.c (plan s).lists (numbers e)) (length s.args.order.now + 4) s.args.out.now (due_in (plan s) (length s.args.order.now) c.before.before.before.before.before.before.before.first_of.result.more c.before.before.before.before.before.before.before.first_of.result.tuple) t l.at l.count l.last l.out) c.before.before.before.before.before.before.start-tuple.ensures l.invariant.0))
+      (subst (λ (t : List ℕ). Writing (words_in s.args.file.now s.args.heads.now (length s.args.order.now) s.args.c (plan s).lists (numbers e)) (length s.args.order.now + 4) s.args.out.now (due_in (plan s) (length s.args.order.now) c.first_of-from.result.more c.first_of-from.result.tuple) t l.at l.count l.last l.out) c.start_tuple-last.ensures l.invariant.0))
 
-  wide-words : length l-start.args.order.now + 4 ≡ words_of (length (decoded l-start.args.file.now).fields)
-  wide-words = let s = l-start in ap words_of (walking_wide (as_engine s.args.engine) s.args.file.now s.args.heads.now s.args.c s.args.checks.now s.args.due.now s.args.scratch.now s.args.lists.now s.args.maps.now s.args.order.now s.pre.0)
+  wide-words : length c.args.order.now + 4 ≡ words_of (length (decoded c.args.file.now).fields)
+  wide-words = let s = l-start in ap words_of (walking_wide (as_engine s.args.engine) s.args.file.now s.args.heads.now s.args.c s.args.checks.now s.args.due.now s.args.scratch.now s.args.lists.now s.args.maps.now s.args.order.now s.requires.0)
 
 -- a turn: there is a tuple
-module _ (c : tie.In-loop invariant-loop-more decreases-loop-more) where
-  going : Going (plan (l-start c.before)) (length (l-start c.before).args.order.now) (due_in (plan (l-start c.before)) (length (l-start c.before).args.order.now) c.before.before.before.before.before.before.before.before.first_of.result.more c.before.before.before.before.before.before.before.before.first_of.result.tuple) c.before.loop.count true c.before.loop.tuple c.before.loop.raw
-  going = let s = l-start c.before in subst (λ (m : Bool). Going (plan s) (length s.args.order.now) (due_in (plan s) (length s.args.order.now) c.before.before.before.before.before.before.before.before.first_of.result.more c.before.before.before.before.before.before.before.before.first_of.result.tuple) c.before.loop.count m c.before.loop.tuple c.before.loop.raw) c.loop-test.true c.before.loop.invariant.1
+module _ (c : In-loop-more) where
+  going : Going (plan (l-start (record { before = c.before.before; type_inv = record { cells = c.shared_slice_known-10-1.given; tables = c.shared_slice_known-9-1.given; order = c.shared_slice_known-8-1.given; maps = c.shared_slice_known-7-1.given; lists = c.shared_slice_known-6-1.given; index = c.shared_slice_known-5-1.given; due = c.shared_slice_known-4-1.given; checks = c.shared_slice_known-3-1.given; heads = c.shared_slice_known-2-1.given; file = c.shared_slice_known-1.given } }))) (length (l-start (record { before = c.before.before; type_inv = record { cells = c.shared_slice_known-10-1.given; tables = c.shared_slice_known-9-1.given; order = c.shared_slice_known-8-1.given; maps = c.shared_slice_known-7-1.given; lists = c.shared_slice_known-6-1.given; index = c.shared_slice_known-5-1.given; due = c.shared_slice_known-4-1.given; checks = c.shared_slice_known-3-1.given; heads = c.shared_slice_known-2-1.given; file = c.shared_slice_known-1.given } })).args.order.now) (due_in (plan (l-start (record { before = c.before.before; type_inv = record { cells = c.shared_slice_known-10-1.given; tables = c.shared_slice_known-9-1.given; order = c.shared_slice_known-8-1.given; maps = c.shared_slice_known-7-1.given; lists = c.shared_slice_known-6-1.given; index = c.shared_slice_known-5-1.given; due = c.shared_slice_known-4-1.given; checks = c.shared_slice_known-3-1.given; heads = c.shared_slice_known-2-1.given; file = c.shared_slice_known-1.given } }))) (length (l-start (record { before = c.before.before; type_inv = record { cells = c.shared_slice_known-10-1.given; tables = c.shared_slice_known-9-1.given; order = c.shared_slice_known-8-1.given; maps = c.shared_slice_known-7-1.given; lists = c.shared_slice_known-6-1.given; index = c.shared_slice_known-5-1.given; due = c.shared_slice_known-4-1.given; checks = c.shared_slice_known-3-1.given; heads = c.shared_slice_known-2-1.given; file = c.shared_slice_known-1.given } })).args.order.now) c.first_of-from.result.more c.first_of-from.result.tuple) c.loop-more.count true c.loop-more.tuple c.loop-more.raw
+  going = let s = l-start (record { before = c.before.before; type_inv = record { cells = c.shared_slice_known-10-1.given; tables = c.shared_slice_known-9-1.given; order = c.shared_slice_known-8-1.given; maps = c.shared_slice_known-7-1.given; lists = c.shared_slice_known-6-1.given; index = c.shared_slice_known-5-1.given; due = c.shared_slice_known-4-1.given; checks = c.shared_slice_known-3-1.given; heads = c.shared_slice_known-2-1.given; file = c.shared_slice_known-1.given } }) in subst (λ (m : Bool). Going (plan s) (length s.args.order.now) (due_in (plan s) (length s.args.order.now) c.first_of-from.result.more c.first_of-from.result.tuple) c.loop-more.count m c.loop-more.tuple c.loop-more.raw) c.loop-more-test.true c.loop-more.invariant.1
 
-  next : drop c.before.loop.count (due_in (plan (l-start c.before)) (length (l-start c.before).args.order.now) c.before.before.before.before.before.before.before.before.first_of.result.more c.before.before.before.before.before.before.before.before.first_of.result.tuple) ≡ take (length (l-start c.before).args.order.now) c.before.loop.tuple ∷ cond (has_tuple_after (plan (l-start c.before)) (take (length (l-start c.before).args.order.now) c.before.loop.tuple)) (from_tuple (plan (l-start c.before)) (tuple_after (plan (l-start c.before)) (take (length (l-start c.before).args.order.now) c.before.loop.tuple))) []
-  next = let s = l-start c.before in going_next (as_engine s.args.engine) s.args.file.now s.args.heads.now s.args.c s.args.checks.now s.args.due.now s.args.scratch.now s.args.lists.now s.args.maps.now s.args.order.now s.pre.0 _ c.before.loop.count c.before.loop.tuple c.before.loop.raw going
+  next : drop c.loop-more.count (due_in (plan (l-start (record { before = c.before.before; type_inv = record { cells = c.shared_slice_known-10-1.given; tables = c.shared_slice_known-9-1.given; order = c.shared_slice_known-8-1.given; maps = c.shared_slice_known-7-1.given; lists = c.shared_slice_known-6-1.given; index = c.shared_slice_known-5-1.given; due = c.shared_slice_known-4-1.given; checks = c.shared_slice_known-3-1.given; heads = c.shared_slice_known-2-1.given; file = c.shared_slice_known-1.given } }))) (length (l-start (record { before = c.before.before; type_inv = record { cells = c.shared_slice_known-10-1.given; tables = c.shared_slice_known-9-1.given; order = c.shared_slice_known-8-1.given; maps = c.shared_slice_known-7-1.given; lists = c.shared_slice_known-6-1.given; index = c.shared_slice_known-5-1.given; due = c.shared_slice_known-4-1.given; checks = c.shared_slice_known-3-1.given; heads = c.shared_slice_known-2-1.given; file = c.shared_slice_known-1.given } })).args.order.now) c.first_of-from.result.more c.first_of-from.result.tuple) ≡ take (length (l-start (record { before = c.before.before; type_inv = record { cells = c.shared_slice_known-10-1.given; tables = c.shared_slice_known-9-1.given; order = c.shared_slice_known-8-1.given; maps = c.shared_slice_known-7-1.given; lists = c.shared_slice_known-6-1.given; index = c.shared_slice_known-5-1.given; due = c.shared_slice_known-4-1.given; checks = c.shared_slice_known-3-1.given; heads = c.shared_slice_known-2-1.given; file = c.shared_slice_known-1.given } })).args.order.now) c.loop-more.tuple ∷ cond (has_tuple_after (plan (l-start (record { before = c.before.before; type_inv = record { cells = c.shared_slice_known-10-1.given; tables = c.shared_slice_known-9-1.given; order = c.shared_slice_known-8-1.given; maps = c.shared_slice_known-7-1.given; lists = c.shared_slice_known-6-1.given; index = c.shared_slice_known-5-1.given; due = c.shared_slice_known-4-1.given; checks = c.shared_slice_known-3-1.given; heads = c.shared_slice_known-2-1.given; file = c.shared_slice_known-1.given } }))) (take (length (l-start (record { before = c.before.before; type_inv = record { cells = c.shared_slice_known-10-1.given; tables = c.shared_slice_known-9-1.given; order = c.shared_slice_known-8-1.given; maps = c.shared_slice_known-7-1.given; lists = c.shared_slice_known-6-1.given; index = c.shared_slice_known-5-1.given; due = c.shared_slice_known-4-1.given; checks = c.shared_slice_known-3-1.given; heads = c.shared_slice_known-2-1.given; file = c.shared_slice_known-1.given } })).args.order.now) c.loop-more.tuple)) (from_tuple (plan (l-start (record { before = c.before.before; type_inv = record { cells = c.shared_slice_known-10-1.given; tables = c.shared_slice_known-9-1.given; order = c.shared_slice_known-8-1.given; maps = c.shared_slice_known-7-1.given; lists = c.shared_slice_known-6-1.given; index = c.shared_slice_known-5-1.given; due = c.shared_slice_known-4-1.given; checks = c.shared_slice_known-3-1.given; heads = c.shared_slice_known-2-1.given; file = c.shared_slice_known-1.given } }))) (tuple_after (plan (l-start (record { before = c.before.before; type_inv = record { cells = c.shared_slice_known-10-1.given; tables = c.shared_slice_known-9-1.given; order = c.shared_slice_known-8-1.given; maps = c.shared_slice_known-7-1.given; lists = c.shared_slice_known-6-1.given; index = c.shared_slice_known-5-1.given; due = c.shared_slice_known-4-1.given; checks = c.shared_slice_known-3-1.given; heads = c.shared_slice_known-2-1.given; file = c.shared_slice_known-1.given } }))) (take (length (l-start (record { before = c.before.before; type_inv = record { cells = c.shared_slice_known-10-1.given; tables = c.shared_slice_known-9-1.given; order = c.shared_slice_known-8-1.given; maps = c.shared_slice_known-7-1.given; lists = c.shared_slice_known-6-1.given; index = c.shared_slice_known-5-1.given; due = c.shared_slice_known-4-1.given; checks = c.shared_slice_known-3-1.given; heads = c.shared_slice_known-2-1.given; file = c.shared_slice_known-1.given } })).args.order.now) c.loop-more.tuple))) []
+  next = let s = l-start (record { before = c.before.before; type_inv = record { cells = c.shared_slice_known-10-1.given; tables = c.shared_slice_known-9-1.given; order = c.shared_slice_known-8-1.given; maps = c.shared_slice_known-7-1.given; lists = c.shared_slice_known-6-1.given; index = c.shared_slice_known-5-1.given; due = c.shared_slice_known-4-1.given; checks = c.shared_slice_known-3-1.given; heads = c.shared_slice_known-2-1.given; file = c.shared_slice_known-1.given } }) in going_next (as_engine s.args.engine) s.args.file.now s.args.heads.now s.args.c s.args.checks.now s.args.due.now s.args.scratch.now s.args.lists.now s.args.maps.now s.args.order.now s.requires.0 _ c.loop-more.count c.loop-more.tuple c.loop-more.raw going
 
-  stopped : length c.before.loop.out - c.before.loop.at < length (l-start c.before).args.order.now + 4
-      → Ends (as_engine (l-start c.before).args.engine) (decoded (l-start c.before).args.file.now) (as_start (l-start c.before).args.start) (length (l-start c.before).args.order.now + 4) (wide-words c.before) (l-start c.before).args.out.now _ c.before.loop.at c.before.loop.count c.before.loop.last c.before.loop.out (writing c.before) (paged_as c.before.loop.count c.before.loop.last false)
+  stopped : length c.loop-more.out - c.loop-more.at < length (l-start (record { before = c.before.before; type_inv = record { cells = c.shared_slice_known-10-1.given; tables = c.shared_slice_known-9-1.given; order = c.shared_slice_known-8-1.given; maps = c.shared_slice_known-7-1.given; lists = c.shared_slice_known-6-1.given; index = c.shared_slice_known-5-1.given; due = c.shared_slice_known-4-1.given; checks = c.shared_slice_known-3-1.given; heads = c.shared_slice_known-2-1.given; file = c.shared_slice_known-1.given } })).args.order.now + 4
+      → Ends (as_engine (l-start (record { before = c.before.before; type_inv = record { cells = c.shared_slice_known-10-1.given; tables = c.shared_slice_known-9-1.given; order = c.shared_slice_known-8-1.given; maps = c.shared_slice_known-7-1.given; lists = c.shared_slice_known-6-1.given; index = c.shared_slice_known-5-1.given; due = c.shared_slice_known-4-1.given; checks = c.shared_slice_known-3-1.given; heads = c.shared_slice_known-2-1.given; file = c.shared_slice_known-1.given } })).args.engine) (decoded (l-start (record { before = c.before.before; type_inv = record { cells = c.shared_slice_known-10-1.given; tables = c.shared_slice_known-9-1.given; order = c.shared_slice_known-8-1.given; maps = c.shared_slice_known-7-1.given; lists = c.shared_slice_known-6-1.given; index = c.shared_slice_known-5-1.given; due = c.shared_slice_known-4-1.given; checks = c.shared_slice_known-3-1.given; heads = c.shared_slice_known-2-1.given; file = c.shared_slice_known-1.given } })).args.file.now) (as_start (l-start (record { before = c.before.before; type_inv = record { cells = c.shared_slice_known-10-1.given; tables = c.shared_slice_known-9-1.given; order = c.shared_slice_known-8-1.given; maps = c.shared_slice_known-7-1.given; lists = c.shared_slice_known-6-1.given; index = c.shared_slice_known-5-1.given; due = c.shared_slice_known-4-1.given; checks = c.shared_slice_known-3-1.given; heads = c.shared_slice_known-2-1.given; file = c.shared_slice_known-1.given } })).args.start) (length (l-start (record { before = c.before.before; type_inv = record { cells = c.shared_slice_known-10-1.given; tables = c.shared_slice_known-9-1.given; order = c.shared_slice_known-8-1.given; maps = c.shared_slice_known-7-1.given; lists = c.shared_slice_known-6-1.given; index = c.shared_slice_known-5-1.given; due = c.shared_slice_known-4-1.given; checks = c.shared_slice_known-3-1.given; heads = c.shared_slice_known-2-1.given; file = c.shared_slice_known-1.given } })).args.order.now + 4) (wide-words (record { before = c.before.before; type_inv = record { cells = c.shared_slice_known-10-1.given; tables = c.shared_slice_known-9-1.given; order = c.shared_slice_known-8-1.given; maps = c.shared_slice_known-7-1.given; lists = c.shared_slice_known-6-1.given; index = c.shared_slice_known-5-1.given; due = c.shared_slice_known-4-1.given; checks = c.shared_slice_known-3-1.given; heads = c.shared_slice_known-2-1.given; file = c.shared_slice_known-1.given } })) (l-start (record { before = c.before.before; type_inv = record { cells = c.shared_slice_known-10-1.given; tables = c.shared_slice_known-9-1.given; order = c.shared_slice_known-8-1.given; maps = c.shared_slice_known-7-1.given; lists = c.shared_slice_known-6-1.given; index = c.shared_slice_known-5-1.given; due = c.shared_slice_known-4-1.given; checks = c.shared_slice_known-3-1.given; heads = c.shared_slice_known-2-1.given; file = c.shared_slice_known-1.given } })).args.out.now _ c.loop-more.at c.loop-more.count c.loop-more.last c.loop-more.out (writing (record { before = c.before.before; type_inv = record { cells = c.shared_slice_known-10-1.given; tables = c.shared_slice_known-9-1.given; order = c.shared_slice_known-8-1.given; maps = c.shared_slice_known-7-1.given; lists = c.shared_slice_known-6-1.given; index = c.shared_slice_known-5-1.given; due = c.shared_slice_known-4-1.given; checks = c.shared_slice_known-3-1.given; heads = c.shared_slice_known-2-1.given; file = c.shared_slice_known-1.given } })) (paged_as c.loop-more.count c.loop-more.last false)
   stopped h =
-      let s = l-start c.before in
-      page_stopped (as_engine s.args.engine) (decoded s.args.file.now) (as_start s.args.start) (length s.args.order.now + 4) (wide-words c.before) s.args.out.now _ c.before.loop.at c.before.loop.count c.before.loop.last c.before.loop.out (writing c.before) _ _ (ap (drop c.before.loop.count) (due-is c.before) ∙ next) (rw (sym (wide-out c.before)) h)
+      let s = l-start (record { before = c.before.before; type_inv = record { cells = c.shared_slice_known-10-1.given; tables = c.shared_slice_known-9-1.given; order = c.shared_slice_known-8-1.given; maps = c.shared_slice_known-7-1.given; lists = c.shared_slice_known-6-1.given; index = c.shared_slice_known-5-1.given; due = c.shared_slice_known-4-1.given; checks = c.shared_slice_known-3-1.given; heads = c.shared_slice_known-2-1.given; file = c.shared_slice_known-1.given } }) in
+      page_stopped (as_engine s.args.engine) (decoded s.args.file.now) (as_start s.args.start) (length s.args.order.now + 4) (wide-words (record { before = c.before.before; type_inv = record { cells = c.shared_slice_known-10-1.given; tables = c.shared_slice_known-9-1.given; order = c.shared_slice_known-8-1.given; maps = c.shared_slice_known-7-1.given; lists = c.shared_slice_known-6-1.given; index = c.shared_slice_known-5-1.given; due = c.shared_slice_known-4-1.given; checks = c.shared_slice_known-3-1.given; heads = c.shared_slice_known-2-1.given; file = c.shared_slice_known-1.given } })) s.args.out.now _ c.loop-more.at c.loop-more.count c.loop-more.last c.loop-more.out (writing (record { before = c.before.before; type_inv = record { cells = c.shared_slice_known-10-1.given; tables = c.shared_slice_known-9-1.given; order = c.shared_slice_known-8-1.given; maps = c.shared_slice_known-7-1.given; lists = c.shared_slice_known-6-1.given; index = c.shared_slice_known-5-1.given; due = c.shared_slice_known-4-1.given; checks = c.shared_slice_known-3-1.given; heads = c.shared_slice_known-2-1.given; file = c.shared_slice_known-1.given } })) _ _ (ap (drop c.loop-more.count) (due-is (record { before = c.before.before; type_inv = record { cells = c.shared_slice_known-10-1.given; tables = c.shared_slice_known-9-1.given; order = c.shared_slice_known-8-1.given; maps = c.shared_slice_known-7-1.given; lists = c.shared_slice_known-6-1.given; index = c.shared_slice_known-5-1.given; due = c.shared_slice_known-4-1.given; checks = c.shared_slice_known-3-1.given; heads = c.shared_slice_known-2-1.given; file = c.shared_slice_known-1.given } })) ∙ next) (rw (sym (wide-out (record { before = c.before.before; type_inv = record { cells = c.shared_slice_known-10-1.given; tables = c.shared_slice_known-9-1.given; order = c.shared_slice_known-8-1.given; maps = c.shared_slice_known-7-1.given; lists = c.shared_slice_known-6-1.given; index = c.shared_slice_known-5-1.given; due = c.shared_slice_known-4-1.given; checks = c.shared_slice_known-3-1.given; heads = c.shared_slice_known-2-1.given; file = c.shared_slice_known-1.given } }))) h)
 
 -- the loop is over
-finished : (c : After-loop-more) → Ends (as_engine (l-start (record { before = c.before.before; type_inv = record { cells = c.before.before.shared_slice_known-10-1.given; tables = c.before.before.shared_slice_known-9-1.given; order = c.before.before.shared_slice_known-8-1.given; maps = c.before.before.shared_slice_known-7-1.given; lists = c.before.before.shared_slice_known-6-1.given; index = c.before.before.shared_slice_known-5-1.given; due = c.before.before.shared_slice_known-4-1.given; checks = c.before.before.shared_slice_known-3-1.given; heads = c.before.before.shared_slice_known-2-1.given; file = c.before.before.shared_slice_known-1.given } })).args.engine) (decoded (l-start (record { before = c.before.before; type_inv = record { cells = c.before.before.shared_slice_known-10-1.given; tables = c.before.before.shared_slice_known-9-1.given; order = c.before.before.shared_slice_known-8-1.given; maps = c.before.before.shared_slice_known-7-1.given; lists = c.before.before.shared_slice_known-6-1.given; index = c.before.before.shared_slice_known-5-1.given; due = c.before.before.shared_slice_known-4-1.given; checks = c.before.before.shared_slice_known-3-1.given; heads = c.before.before.shared_slice_known-2-1.given; file = c.before.before.shared_slice_known-1.given } })).args.file.now) (as_start (l-start (record { before = c.before.before; type_inv = record { cells = c.before.before.shared_slice_known-10-1.given; tables = c.before.before.shared_slice_known-9-1.given; order = c.before.before.shared_slice_known-8-1.given; maps = c.before.before.shared_slice_known-7-1.given; lists = c.before.before.shared_slice_known-6-1.given; index = c.before.before.shared_slice_known-5-1.given; due = c.before.before.shared_slice_known-4-1.given; checks = c.before.before.shared_slice_known-3-1.given; heads = c.before.before.shared_slice_known-2-1.given; file = c.before.before.shared_slice_known-1.given } })).args.start) (length (l-start (record { before = c.before.before; type_inv = record { cells = c.before.before.shared_slice_known-10-1.given; tables = c.before.before.shared_slice_known-9-1.given; order = c.before.before.shared_slice_known-8-1.given; maps = c.before.before.shared_slice_known-7-1.given; lists = c.before.before.shared_slice_known-6-1.given; index = c.before.before.shared_slice_known-5-1.given; due = c.before.before.shared_slice_known-4-1.given; checks = c.before.before.shared_slice_known-3-1.given; heads = c.before.before.shared_slice_known-2-1.given; file = c.before.before.shared_slice_known-1.given } })).args.order.now + 4) (wide-words (record { before = c.before.before; type_inv = record { cells = c.before.before.shared_slice_known-10-1.given; tables = c.before.before.shared_slice_known-9-1.given; order = c.before.before.shared_slice_known-8-1.given; maps = c.before.before.shared_slice_known-7-1.given; lists = c.before.before.shared_slice_known-6-1.given; index = c.before.before.shared_slice_known-5-1.given; due = c.before.before.shared_slice_known-4-1.given; checks = c.before.before.shared_slice_known-3-1.given; heads = c.before.before.shared_slice_known-2-1.given; file = c.before.before.shared_slice_known-1.given } })) (l-start (record { before = c.before.before; type_inv = record { cells = c.before.before.shared_slice_known-10-1.given; tables = c.before.before.shared_slice_known-9-1.given; order = c.before.before.shared_slice_known-8-1.given; maps = c.before.before.shared_slice_known-7-1.given; lists = c.before.before.shared_slice_known-6-1.given; index = c.before.before.shared_slice_known-5-1.given; due = c.before.before.shared_slice_known-4-1.given; checks = c.before.before.shared_slice_known-3-1.given; heads = c.before.before.shared_slice_known-2-1.given; file = c.before.before.shared_slice_known-1.given } })).args.out.now _ c.loop-more.at c.loop-more.count c.loop-more.last c.loop-more.out (writing (record { before = c.before.before; type_inv = record { cells = c.before.before.shared_slice_known-10-1.given; tables = c.before.before.shared_slice_known-9-1.given; order = c.before.before.shared_slice_known-8-1.given; maps = c.before.before.shared_slice_known-7-1.given; lists = c.before.before.shared_slice_known-6-1.given; index = c.before.before.shared_slice_known-5-1.given; due = c.before.before.shared_slice_known-4-1.given; checks = c.before.before.shared_slice_known-3-1.given; heads = c.before.before.shared_slice_known-2-1.given; file = c.before.before.shared_slice_known-1.given } })) (paged_as c.loop-more.count c.loop-more.last true)
+finished : (c : After-loop-more) → Ends (as_engine (l-start (record { before = c.before.before; type_inv = record { cells = c.shared_slice_known-10-1.given; tables = c.shared_slice_known-9-1.given; order = c.shared_slice_known-8-1.given; maps = c.shared_slice_known-7-1.given; lists = c.shared_slice_known-6-1.given; index = c.shared_slice_known-5-1.given; due = c.shared_slice_known-4-1.given; checks = c.shared_slice_known-3-1.given; heads = c.shared_slice_known-2-1.given; file = c.shared_slice_known-1.given } })).args.engine) (decoded (l-start (record { before = c.before.before; type_inv = record { cells = c.shared_slice_known-10-1.given; tables = c.shared_slice_known-9-1.given; order = c.shared_slice_known-8-1.given; maps = c.shared_slice_known-7-1.given; lists = c.shared_slice_known-6-1.given; index = c.shared_slice_known-5-1.given; due = c.shared_slice_known-4-1.given; checks = c.shared_slice_known-3-1.given; heads = c.shared_slice_known-2-1.given; file = c.shared_slice_known-1.given } })).args.file.now) (as_start (l-start (record { before = c.before.before; type_inv = record { cells = c.shared_slice_known-10-1.given; tables = c.shared_slice_known-9-1.given; order = c.shared_slice_known-8-1.given; maps = c.shared_slice_known-7-1.given; lists = c.shared_slice_known-6-1.given; index = c.shared_slice_known-5-1.given; due = c.shared_slice_known-4-1.given; checks = c.shared_slice_known-3-1.given; heads = c.shared_slice_known-2-1.given; file = c.shared_slice_known-1.given } })).args.start) (length (l-start (record { before = c.before.before; type_inv = record { cells = c.shared_slice_known-10-1.given; tables = c.shared_slice_known-9-1.given; order = c.shared_slice_known-8-1.given; maps = c.shared_slice_known-7-1.given; lists = c.shared_slice_known-6-1.given; index = c.shared_slice_known-5-1.given; due = c.shared_slice_known-4-1.given; checks = c.shared_slice_known-3-1.given; heads = c.shared_slice_known-2-1.given; file = c.shared_slice_known-1.given } })).args.order.now + 4) (wide-words (record { before = c.before.before; type_inv = record { cells = c.shared_slice_known-10-1.given; tables = c.shared_slice_known-9-1.given; order = c.shared_slice_known-8-1.given; maps = c.shared_slice_known-7-1.given; lists = c.shared_slice_known-6-1.given; index = c.shared_slice_known-5-1.given; due = c.shared_slice_known-4-1.given; checks = c.shared_slice_known-3-1.given; heads = c.shared_slice_known-2-1.given; file = c.shared_slice_known-1.given } })) (l-start (record { before = c.before.before; type_inv = record { cells = c.shared_slice_known-10-1.given; tables = c.shared_slice_known-9-1.given; order = c.shared_slice_known-8-1.given; maps = c.shared_slice_known-7-1.given; lists = c.shared_slice_known-6-1.given; index = c.shared_slice_known-5-1.given; due = c.shared_slice_known-4-1.given; checks = c.shared_slice_known-3-1.given; heads = c.shared_slice_known-2-1.given; file = c.shared_slice_known-1.given } })).args.out.now _ c.loop-more.at c.loop-more.count c.loop-more.last c.loop-more.out (writing (record { before = c.before.before; type_inv = record { cells = c.shared_slice_known-10-1.given; tables = c.shared_slice_known-9-1.given; order = c.shared_slice_known-8-1.given; maps = c.shared_slice_known-7-1.given; lists = c.shared_slice_known-6-1.given; index = c.shared_slice_known-5-1.given; due = c.shared_slice_known-4-1.given; checks = c.shared_slice_known-3-1.given; heads = c.shared_slice_known-2-1.given; file = c.shared_slice_known-1.given } })) (paged_as c.loop-more.count c.loop-more.last true)
 finished c =
-    let s = l-start (record { before = c.before.before; type_inv = record { cells = c.before.before.shared_slice_known-10-1.given; tables = c.before.before.shared_slice_known-9-1.given; order = c.before.before.shared_slice_known-8-1.given; maps = c.before.before.shared_slice_known-7-1.given; lists = c.before.before.shared_slice_known-6-1.given; index = c.before.before.shared_slice_known-5-1.given; due = c.before.before.shared_slice_known-4-1.given; checks = c.before.before.shared_slice_known-3-1.given; heads = c.before.before.shared_slice_known-2-1.given; file = c.before.before.shared_slice_known-1.given } }) in
-    page_finished (as_engine s.args.engine) (decoded s.args.file.now) (as_start s.args.start) (length s.args.order.now + 4) (wide-words (record { before = c.before.before; type_inv = record { cells = c.before.before.shared_slice_known-10-1.given; tables = c.before.before.shared_slice_known-9-1.given; order = c.before.before.shared_slice_known-8-1.given; maps = c.before.before.shared_slice_known-7-1.given; lists = c.before.before.shared_slice_known-6-1.given; index = c.before.before.shared_slice_known-5-1.given; due = c.before.before.shared_slice_known-4-1.given; checks = c.before.before.shared_slice_known-3-1.given; heads = c.before.before.shared_slice_known-2-1.given; file = c.before.before.shared_slice_known-1.given } })) s.args.out.now _ c.loop-more.at c.loop-more.count c.loop-more.last c.loop-more.out (writing (record { before = c.before.before; type_inv = record { cells = c.before.before.shared_slice_known-10-1.given; tables = c.before.before.shared_slice_known-9-1.given; order = c.before.before.shared_slice_known-8-1.given; maps = c.before.before.shared_slice_known-7-1.given; lists = c.before.before.shared_slice_known-6-1.given; index = c.before.before.shared_slice_known-5-1.given; due = c.before.before.shared_slice_known-4-1.given; checks = c.before.before.shared_slice_known-3-1.given; heads = c.before.before.shared_slice_known-2-1.given; file = c.before.before.shared_slice_known-1.given } })) (ap (drop c.loop-more.count) (due-is (record { before = c.before.before; type_inv = record { cells = c.before.before.shared_slice_known-10-1.given; tables = c.before.before.shared_slice_known-9-1.given; order = c.before.before.shared_slice_known-8-1.given; maps = c.before.before.shared_slice_known-7-1.given; lists = c.before.before.shared_slice_known-6-1.given; index = c.before.before.shared_slice_known-5-1.given; due = c.before.before.shared_slice_known-4-1.given; checks = c.before.before.shared_slice_known-3-1.given; heads = c.before.before.shared_slice_known-2-1.given; file = c.before.before.shared_slice_known-1.given } })) ∙ c.loop-more.invariant.1.left ∙ ap (λ (m : Bool). cond m (from_tuple (plan s) (take (length s.args.order.now) c.loop-more.tuple)) []) c.loop-more-test.false)
+    let s = l-start (record { before = c.before.before; type_inv = record { cells = c.shared_slice_known-10-1.given; tables = c.shared_slice_known-9-1.given; order = c.shared_slice_known-8-1.given; maps = c.shared_slice_known-7-1.given; lists = c.shared_slice_known-6-1.given; index = c.shared_slice_known-5-1.given; due = c.shared_slice_known-4-1.given; checks = c.shared_slice_known-3-1.given; heads = c.shared_slice_known-2-1.given; file = c.shared_slice_known-1.given } }) in
+    page_finished (as_engine s.args.engine) (decoded s.args.file.now) (as_start s.args.start) (length s.args.order.now + 4) (wide-words (record { before = c.before.before; type_inv = record { cells = c.shared_slice_known-10-1.given; tables = c.shared_slice_known-9-1.given; order = c.shared_slice_known-8-1.given; maps = c.shared_slice_known-7-1.given; lists = c.shared_slice_known-6-1.given; index = c.shared_slice_known-5-1.given; due = c.shared_slice_known-4-1.given; checks = c.shared_slice_known-3-1.given; heads = c.shared_slice_known-2-1.given; file = c.shared_slice_known-1.given } })) s.args.out.now _ c.loop-more.at c.loop-more.count c.loop-more.last c.loop-more.out (writing (record { before = c.before.before; type_inv = record { cells = c.shared_slice_known-10-1.given; tables = c.shared_slice_known-9-1.given; order = c.shared_slice_known-8-1.given; maps = c.shared_slice_known-7-1.given; lists = c.shared_slice_known-6-1.given; index = c.shared_slice_known-5-1.given; due = c.shared_slice_known-4-1.given; checks = c.shared_slice_known-3-1.given; heads = c.shared_slice_known-2-1.given; file = c.shared_slice_known-1.given } })) (ap (drop c.loop-more.count) (due-is (record { before = c.before.before; type_inv = record { cells = c.shared_slice_known-10-1.given; tables = c.shared_slice_known-9-1.given; order = c.shared_slice_known-8-1.given; maps = c.shared_slice_known-7-1.given; lists = c.shared_slice_known-6-1.given; index = c.shared_slice_known-5-1.given; due = c.shared_slice_known-4-1.given; checks = c.shared_slice_known-3-1.given; heads = c.shared_slice_known-2-1.given; file = c.shared_slice_known-1.given } })) ∙ c.loop-more.invariant.1.left ∙ ap (λ (m : Bool). cond m (from_tuple (plan s) (take (length s.args.order.now) c.loop-more.tuple)) []) c.loop-more-test.false)
 
 -- there is room for a verdict
-room : (c : Else-out-at) → c.loop-more.at + (length (l-start (record { before = c.before.before.before; type_inv = record { cells = c.before.before.before.shared_slice_known-10-1.given; tables = c.before.before.before.shared_slice_known-9-1.given; order = c.before.before.before.shared_slice_known-8-1.given; maps = c.before.before.before.shared_slice_known-7-1.given; lists = c.before.before.before.shared_slice_known-6-1.given; index = c.before.before.before.shared_slice_known-5-1.given; due = c.before.before.before.shared_slice_known-4-1.given; checks = c.before.before.before.shared_slice_known-3-1.given; heads = c.before.before.before.shared_slice_known-2-1.given; file = c.before.before.before.shared_slice_known-1.given } })).args.order.now + 4) ≤ length (l-start (record { before = c.before.before.before; type_inv = record { cells = c.before.before.before.shared_slice_known-10-1.given; tables = c.before.before.before.shared_slice_known-9-1.given; order = c.before.before.before.shared_slice_known-8-1.given; maps = c.before.before.before.shared_slice_known-7-1.given; lists = c.before.before.before.shared_slice_known-6-1.given; index = c.before.before.before.shared_slice_known-5-1.given; due = c.before.before.before.shared_slice_known-4-1.given; checks = c.before.before.before.shared_slice_known-3-1.given; heads = c.before.before.before.shared_slice_known-2-1.given; file = c.before.before.before.shared_slice_known-1.given } })).args.out.now
-room c = omega (arith, c.if-out-at.false, wide-out (record { before = c.before.before.before; type_inv = record { cells = c.before.before.before.shared_slice_known-10-1.given; tables = c.before.before.before.shared_slice_known-9-1.given; order = c.before.before.before.shared_slice_known-8-1.given; maps = c.before.before.before.shared_slice_known-7-1.given; lists = c.before.before.before.shared_slice_known-6-1.given; index = c.before.before.before.shared_slice_known-5-1.given; due = c.before.before.before.shared_slice_known-4-1.given; checks = c.before.before.before.shared_slice_known-3-1.given; heads = c.before.before.before.shared_slice_known-2-1.given; file = c.before.before.before.shared_slice_known-1.given } }), c.loop-more.invariant.0.within)
+room : (c : Else-out-at) → c.loop-more.at + (length (l-start (record { before = c.before.before.before; type_inv = record { cells = c.shared_slice_known-10-1.given; tables = c.shared_slice_known-9-1.given; order = c.shared_slice_known-8-1.given; maps = c.shared_slice_known-7-1.given; lists = c.shared_slice_known-6-1.given; index = c.shared_slice_known-5-1.given; due = c.shared_slice_known-4-1.given; checks = c.shared_slice_known-3-1.given; heads = c.shared_slice_known-2-1.given; file = c.shared_slice_known-1.given } })).args.order.now + 4) ≤ length (l-start (record { before = c.before.before.before; type_inv = record { cells = c.shared_slice_known-10-1.given; tables = c.shared_slice_known-9-1.given; order = c.shared_slice_known-8-1.given; maps = c.shared_slice_known-7-1.given; lists = c.shared_slice_known-6-1.given; index = c.shared_slice_known-5-1.given; due = c.shared_slice_known-4-1.given; checks = c.shared_slice_known-3-1.given; heads = c.shared_slice_known-2-1.given; file = c.shared_slice_known-1.given } })).args.out.now
+room c = omega (arith, c.if-out-at.false, wide-out (record { before = c.before.before.before; type_inv = record { cells = c.shared_slice_known-10-1.given; tables = c.shared_slice_known-9-1.given; order = c.shared_slice_known-8-1.given; maps = c.shared_slice_known-7-1.given; lists = c.shared_slice_known-6-1.given; index = c.shared_slice_known-5-1.given; due = c.shared_slice_known-4-1.given; checks = c.shared_slice_known-3-1.given; heads = c.shared_slice_known-2-1.given; file = c.shared_slice_known-1.given } }), c.loop-more.invariant.0.within)
 
 pub overflow_add-k : goal.overflow_add-k
 overflow_add-k c = let f = c.requires.0.planned.plan-in.places.few in let l = c.requires.0.opened.long in search rules
@@ -219,16 +215,16 @@ pub slice_bounds-write_verdict-end : goal.slice_bounds-write_verdict-end
 slice_bounds-write_verdict-end c = sym (field_heads c.args.file.now c.args.heads.now (length c.args.order.now) c.args.c c.requires.0.opened)
 
 pub offset_bounds-heads-n-in-loop-more : goal.offset_bounds-heads-n-in-loop-more
-offset_bounds-heads-n-in-loop-more c = let f = c.before.before.before.before.before.before.before.before.before.before.before.before.before.before.before.before.before.before.before.before.before.before.before.before.before.requires.0.planned.plan-in.places.few in let l = c.before.before.before.before.before.before.before.before.before.before.before.before.before.before.before.before.before.before.before.before.before.before.before.before.before.requires.0.opened.long in search rules
+offset_bounds-heads-n-in-loop-more c = let f = c.requires.0.planned.plan-in.places.few in let l = c.requires.0.opened.long in search rules
 
 pub slice_bounds-write_verdict-count : goal.slice_bounds-write_verdict-count
-slice_bounds-write_verdict-count c = let f = c.before.before.before.before.before.before.before.before.before.before.before.before.before.before.before.before.before.before.before.before.before.before.before.before.before.requires.0.planned.plan-in.places.few in let l = c.before.before.before.before.before.before.before.before.before.before.before.before.before.before.before.before.before.before.before.before.before.before.before.before.before.requires.0.opened.long in search rules
+slice_bounds-write_verdict-count c = let f = c.requires.0.planned.plan-in.places.few in let l = c.requires.0.opened.long in search rules
 
 pub slice_bounds-write_verdict-start : goal.slice_bounds-write_verdict-start
-slice_bounds-write_verdict-start c = let f = c.before.before.before.before.before.before.before.before.before.before.before.before.before.before.before.before.before.before.before.before.before.before.before.before.before.requires.0.planned.plan-in.places.few in let l = c.before.before.before.before.before.before.before.before.before.before.before.before.before.before.before.before.before.before.before.before.before.before.before.before.before.requires.0.opened.long in search rules
+slice_bounds-write_verdict-start c = let f = c.requires.0.planned.plan-in.places.few in let l = c.requires.0.opened.long in search rules
 
 pub slice_bounds-write_verdict-end-in-loop-more : goal.slice_bounds-write_verdict-end-in-loop-more
-slice_bounds-write_verdict-end-in-loop-more c = let f = c.before.before.before.before.before.before.before.before.before.before.before.before.before.before.before.before.before.before.before.before.before.before.before.before.before.requires.0.planned.plan-in.places.few in let l = c.before.before.before.before.before.before.before.before.before.before.before.before.before.before.before.before.before.before.before.before.before.before.before.before.before.requires.0.opened.long in search rules
+slice_bounds-write_verdict-end-in-loop-more c = let f = c.requires.0.planned.plan-in.places.few in let l = c.requires.0.opened.long in search rules
 
 pub slice_bounds-numbers-end : goal.slice_bounds-numbers-end
 slice_bounds-numbers-end c = numbers-wide (goal.at.slice_bounds-numbers-end c).After-numbers-1
@@ -237,16 +233,16 @@ pub slice_bounds-write_verdict-end-in-loop-more-2 : goal.slice_bounds-write_verd
 slice_bounds-write_verdict-end-in-loop-more-2 c = let e = (goal.at.slice_bounds-write_verdict-end-in-loop-more-2 c).After-numbers-1 in sym (length-take-le e.enables-of.result e.enables-of.new.1.1.1.0 (numbers-wide e))
 
 pub overflow_add-n-in-loop-more : goal.overflow_add-n-in-loop-more
-overflow_add-n-in-loop-more c = let h = heads-small c.before.before.before.before.before.before.before.before.before.before.before.before.before.before.before.before.before.before.before.before.before.before.before.before.before.before.before in let l = c.before.before.before.before.before.before.before.before.before.before.before.before.before.before.before.before.before.before.before.before.before.before.before.before.before.before.before.requires.0.opened.long in record { fits = omega arith }
+overflow_add-n-in-loop-more c = let h = heads-small c.before.before.before.before.before.before.before.before.before.before.before.before.before.before.before.before.before.before.before.before.before.before.before.before.before.before.before in let l = c.requires.0.opened.long in record { fits = omega arith }
 
 pub offset_bounds-heads-n-in-loop-more-2 : goal.offset_bounds-heads-n-in-loop-more-2
-offset_bounds-heads-n-in-loop-more-2 c = let h = heads-small c.before.before.before.before.before.before.before.before.before.before.before.before.before.before.before.before.before.before.before.before.before.before.before.before.before.before.before in let l = c.before.before.before.before.before.before.before.before.before.before.before.before.before.before.before.before.before.before.before.before.before.before.before.before.before.before.before.requires.0.opened.long in record { fits = omega arith }
+offset_bounds-heads-n-in-loop-more-2 c = let h = heads-small c.before.before.before.before.before.before.before.before.before.before.before.before.before.before.before.before.before.before.before.before.before.before.before.before.before.before.before in let l = c.requires.0.opened.long in record { fits = omega arith }
 
 pub bounds-heads-n : goal.bounds-heads-n
-bounds-heads-n c = let f = c.before.before.before.before.before.before.before.before.before.before.before.before.before.before.before.before.before.before.before.before.before.before.before.before.before.before.before.before.requires.0.planned.plan-in.places.few in let l = c.before.before.before.before.before.before.before.before.before.before.before.before.before.before.before.before.before.before.before.before.before.before.before.before.before.before.before.before.requires.0.opened.long in search rules
+bounds-heads-n c = let f = c.requires.0.planned.plan-in.places.few in let l = c.requires.0.opened.long in search rules
 
 pub slice_bounds-raw-end-in-loop-more : goal.slice_bounds-raw-end-in-loop-more
-slice_bounds-raw-end-in-loop-more c = let f = c.before.before.before.before.before.before.before.before.before.before.before.before.before.before.before.before.before.before.before.before.before.before.before.before.before.before.before.before.requires.0.planned.plan-in.places.few in omega (arith, c.loop.invariant.1.wide)
+slice_bounds-raw-end-in-loop-more c = let f = c.requires.0.planned.plan-in.places.few in omega (arith, c.loop.invariant.1.wide)
 
 pub slice_bounds-write_verdict-end-in-loop-more-3 : goal.slice_bounds-write_verdict-end-in-loop-more-3
 slice_bounds-write_verdict-end-in-loop-more-3 c = let l = c.loop in sym (length-take-le (length c.args.order.now) l.raw (omega (arith, l.invariant.1.wide, c.requires.0.planned.plan-in.places.few)))
@@ -277,13 +273,13 @@ pub overflow_add-count : goal.overflow_add-count
 overflow_add-count c = let l = c.loop in let i = room (goal.at.overflow_add-count c).In-loop-more in let k = l.invariant.0.few in let h = out-small c.before.before.before.before.before.before.before.before.before.before.before.before.before.before.before.before.before.before.before.before.before.before.before.before.before.before.before.before.before.before.before.before in record { fits = omega arith }
 
 pub slice_bounds-tuple-end-in-loop-more : goal.slice_bounds-tuple-end-in-loop-more
-slice_bounds-tuple-end-in-loop-more c = let f = c.before.before.before.before.before.before.before.before.before.before.before.before.before.before.before.before.before.before.before.before.before.before.before.before.before.before.before.before.before.before.before.before.requires.0.planned.plan-in.places.few in omega (arith, c.loop.invariant.1.begun.long)
+slice_bounds-tuple-end-in-loop-more c = let f = c.requires.0.planned.plan-in.places.few in omega (arith, c.loop.invariant.1.begun.long)
 
 pub slice_bounds-step-end : goal.slice_bounds-step-end
 slice_bounds-step-end c = let l = c.loop in sym (length-take-le (length c.args.order.now) l.tuple (omega (arith, l.invariant.1.begun.long, c.requires.0.planned.plan-in.places.few)))
 
 pub slice_bounds-raw-end-in-loop-more-2 : goal.slice_bounds-raw-end-in-loop-more-2
-slice_bounds-raw-end-in-loop-more-2 c = let f = c.before.before.before.before.before.before.before.before.before.before.before.before.before.before.before.before.before.before.before.before.before.before.before.before.before.before.before.before.before.before.before.before.before.requires.0.planned.plan-in.places.few in omega (arith, c.loop.invariant.1.wide)
+slice_bounds-raw-end-in-loop-more-2 c = let f = c.requires.0.planned.plan-in.places.few in omega (arith, c.loop.invariant.1.wide)
 
 pub slice_bounds-step-end-in-loop-more : goal.slice_bounds-step-end-in-loop-more
 slice_bounds-step-end-in-loop-more c = let l = c.loop in sym (length-take-le (length c.args.order.now) l.raw (omega (arith, l.invariant.1.wide, c.requires.0.planned.plan-in.places.few)))

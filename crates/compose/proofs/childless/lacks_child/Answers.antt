@@ -18,9 +18,10 @@ use Rattle.registry.specs.Index.{Spans}
 use Rattle.compose.specs.Code.{InRun, pairs_with}
 use Rattle.compose.specs.Maps.{childless_key}
 use Rattle.compose.proofs.Spanned.{span_key, span_pairs}
+use Rattle.compose.proofs.childless.lacks_child.Goals.{Start}
 use Rattle.compose.proofs.childless.lacks_child.Goals as goal
 
-module _ (s : tie.Start) (low high : ℕ) (h : Spans s.args.run.now s.args.places.now s.args.v.0 low high) where
+module _ (s : Start) (low high : ℕ) (h : Spans s.args.run.now s.args.places.now s.args.v.0 low high) where
   abbrev run : List ℕ
   run = s.args.run.now
 
@@ -42,13 +43,13 @@ module _ (s : tie.Start) (low high : ℕ) (h : Spans s.args.run.now s.args.place
   asked : (b : Bool) → ltb low high ≡ b → childless_key (map entry_of (records_of run)) list v ≡ (b && not has_child)
   asked b e =
       ap₂ (λ (x y : Bool). x && not y)
-      (any_key v (records_of run) ∙ span_key run places v low high h s.pre.0 ∙ e)
-      (any_ext (All_of (λ (w : ℤ). span_pairs run places v low high h s.pre.0 w) list))
+      (any_key v (records_of run) ∙ span_key run places v low high h s.requires.0 ∙ e)
+      (any_ext (All_of (λ (w : ℤ). span_pairs run places v low high h s.requires.0 w) list))
 
   inside : InRun run its
   inside k l =
       let m : k < high - low = omega (arith, length-take-le (high - low) (drop low places) (omega (arith, length-drop low places, h.high_le))) in
-      rw (get_or-take (high - low) (drop low places) k 0 m, get_or-drop low places k 0) (s.pre.0.sorted.inside (low + k) (omega (arith, h.high_le)))
+      rw (get_or-take (high - low) (drop low places) k 0 m, get_or-drop low places k 0) (s.requires.0.sorted.inside (low + k) (omega (arith, h.high_le)))
 
 pub returns-then-high-low : goal.returns-then-high-low
 returns-then-high-low c =

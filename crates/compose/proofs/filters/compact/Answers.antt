@@ -27,7 +27,7 @@ value c =
     to_z-of_z w64 _ (sfits_of c.x-1.given) ∙ moved_read (test_with c.args.code (held c.args.p) (held c.args.q) c.args.run.now) c.args.list.now l.list l.w l.i l.invariant
 
 test : (c : After-meets) → test_with c.args.code (held c.args.p) (held c.args.q) c.args.run.now (get_or c.args.list.now c.loop-i.i (pos 0)) ≡ c.meets.result
-test c = sym (rw (value (record { before = c.before.before; type_inv = record { run = c.before.before.shared_slice_known-1.given } })) at c.meets.ensures)
+test c = sym (rw (value (record { before = c.before.before; type_inv = record { run = c.shared_slice_known-1.given } })) at c.meets.ensures)
 
 pub offset_bounds-list-w : goal.offset_bounds-list-w
 offset_bounds-list-w c =

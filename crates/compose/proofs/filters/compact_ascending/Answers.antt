@@ -16,7 +16,7 @@ use Rattle.compose.proofs.Ascending.{ascending_drop}
 use Rattle.compose.proofs.Narrowing.{Moved, is_item, moved_count, moved_end, moved_kept, moved_none, moved_past, moved_read, rest_more}
 use Rattle.compose.specs.Code.{is_ascending}
 use Rattle.compose.specs.Walk.{least}
-use Rattle.compose.proofs.filters.compact_ascending.Goals.{After-next_item-next, In-loop-i}
+use Rattle.compose.proofs.filters.compact_ascending.Goals.{After-next_item-next, After-x-1, In-loop-i}
 use Rattle.compose.proofs.filters.compact_ascending.Goals as goal
 
 module _ (p : ℤ → Bool) (l₀ l : List ℤ) (w : ℕ) where
@@ -48,27 +48,27 @@ pub slice_copy_out-x : goal.slice_copy_out-x
 slice_copy_out-x c = let e = c.loop-i.invariant.0.long in omega arith
 
 -- the value at i moved to the front
-module _ (c : tie.After-x invariant-loop-i decreases-loop-i) where
+module _ (c : After-x-1) where
   abbrev list : List ℤ
-  list = c.before.before.before.before.before.before.before.args.list.now
+  list = c.args.list.now
 
   abbrev test : ℤ → Bool
-  test = is_item c.before.before.before.before.before.before.before.args.run.now
+  test = is_item c.args.run.now
 
   abbrev i : ℕ
-  i = c.before.before.loop.i
+  i = c.loop-i.i
 
   abbrev w : ℕ
-  w = c.before.before.loop.w
+  w = c.loop-i.w
 
   abbrev left : List ℤ
-  left = set c.before.before.loop.list w (to_z w64 (of_z w64 (get_or c.before.before.loop.list i (pos 0))))
+  left = set c.loop-i.list w (to_z w64 (of_z w64 (get_or c.loop-i.list i (pos 0))))
 
   kept : Moved test list left (w + 1) (i + 1)
   kept =
-      let l = c.before.before.loop in
-      let h = c.before.loop-test.true in
-      rw (to_z-of_z w64 _ (sfits_of c.x.given) ∙ moved_read test list l.list w i l.invariant.0) (moved_kept test list l.list w i l.invariant.0 h (l.invariant.1 h))
+      let l = c.loop-i in
+      let h = c.loop-i-test.true in
+      rw (to_z-of_z w64 _ (sfits_of c.x-1.given) ∙ moved_read test list l.list w i l.invariant.0) (moved_kept test list l.list w i l.invariant.0 h (l.invariant.1 h))
 
   -- what is lent on
   part_is : take (length left - (i + 1)) (drop (i + 1) left) ≡ drop (i + 1) left
@@ -105,9 +105,9 @@ next_item-next-requires c =
     (ap is_ascending (part_is a ∙ same_from (test a) (list a) (left a) (w a + 1) (i a + 1) (kept a)) ∙ ascending_drop (list a) s.requires.0 (i a + 1), s.requires.1)
 
 -- the next value that is to be moved
-further : (c : After-next_item-next) → Next (test (record { before = c.before.before.before.before; type_inv = record { places = c.before.before.before.before.shared_slice_known-2-1.given; run = c.before.before.before.before.shared_slice_known-1.given } })) (list (record { before = c.before.before.before.before; type_inv = record { places = c.before.before.before.before.shared_slice_known-2-1.given; run = c.before.before.before.before.shared_slice_known-1.given } })) (left (record { before = c.before.before.before.before; type_inv = record { places = c.before.before.before.before.shared_slice_known-2-1.given; run = c.before.before.before.before.shared_slice_known-1.given } })) (w (record { before = c.before.before.before.before; type_inv = record { places = c.before.before.before.before.shared_slice_known-2-1.given; run = c.before.before.before.before.shared_slice_known-1.given } }) + 1) (i (record { before = c.before.before.before.before; type_inv = record { places = c.before.before.before.before.shared_slice_known-2-1.given; run = c.before.before.before.before.shared_slice_known-1.given } }) + 1 + c.next_item-next.result.0)
+further : (c : After-next_item-next) → Next (test (record { before = c.before.before.before.before; type_inv = record { places = c.shared_slice_known-2-1.given; run = c.shared_slice_known-1.given } })) (list (record { before = c.before.before.before.before; type_inv = record { places = c.shared_slice_known-2-1.given; run = c.shared_slice_known-1.given } })) (left (record { before = c.before.before.before.before; type_inv = record { places = c.shared_slice_known-2-1.given; run = c.shared_slice_known-1.given } })) (w (record { before = c.before.before.before.before; type_inv = record { places = c.shared_slice_known-2-1.given; run = c.shared_slice_known-1.given } }) + 1) (i (record { before = c.before.before.before.before; type_inv = record { places = c.shared_slice_known-2-1.given; run = c.shared_slice_known-1.given } }) + 1 + c.next_item-next.result.0)
 further c =
-    let a : In-loop-i = record { before = c.before.before.before.before; type_inv = record { places = c.before.before.before.before.shared_slice_known-2-1.given; run = c.before.before.before.before.shared_slice_known-1.given } } in
+    let a : In-loop-i = record { before = c.before.before.before.before; type_inv = record { places = c.shared_slice_known-2-1.given; run = c.shared_slice_known-1.given } } in
     let m = kept a in
     let d = drop (i a + 1) (left a) in
     subst (λ (n : ℕ). Next (test a) (list a) (left a) (w a + 1) (i a + 1 + n)) (sym (c.next_item-next.ensures ∙ ap (λ (l : List ℤ). least (λ b. test a (get_or l b (pos 0))) 0 (length l)) (part_is a)))

@@ -23,7 +23,7 @@ value c =
     to_z-of_z w64 _ (sfits_of c.x-1.given) ∙ moved_read (is_item c.args.run.now) c.args.list.now l.list l.w l.i l.invariant
 
 test : (c : After-finds_p) → is_item c.args.run.now (get_or c.args.list.now c.loop-i.i (pos 0)) ≡ c.finds_p.result
-test c = sym (rw (value (record { before = c.before.before; type_inv = record { places = c.before.before.shared_slice_known-2-1.given; run = c.before.before.shared_slice_known-1.given } })) at c.finds_p.ensures)
+test c = sym (rw (value (record { before = c.before.before; type_inv = record { places = c.shared_slice_known-2-1.given; run = c.shared_slice_known-1.given } })) at c.finds_p.ensures)
 
 pub offset_bounds-list-w : goal.offset_bounds-list-w
 offset_bounds-list-w c =

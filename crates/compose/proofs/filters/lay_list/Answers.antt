@@ -34,11 +34,11 @@ values-are c = rw (add-one c.args.head) at c.part-values.ensures.records
 
 -- the length of its domain, for which there is room
 long : (c : After-domain_len-len) → c.domain_len-len.result ≡ length (domain (field_by c.record_at-h.result.b (as_record c.record_at-h.result) (records_of c.part-values.result.now)))
-long c =     c.domain_len-len.ensures ∙ field_length c.record_at-h.result c.args.file.now c.part-values.result.now c.args.head c.args.end c.requires.0 c.record_at-h.ensures.read (values-are (record { before = c.before.before; type_inv = record { heads = c.before.before.shared_slice_known-2-1.given; file = c.before.before.shared_slice_known-1.given } }))
+long c =     c.domain_len-len.ensures ∙ field_length c.record_at-h.result c.args.file.now c.part-values.result.now c.args.head c.args.end c.requires.0 c.record_at-h.ensures.read (values-are (record { before = c.before.before; type_inv = record { heads = c.shared_slice_known-2-1.given; file = c.shared_slice_known-1.given } }))
 
 room : (c : After-domain_len-len) → c.domain_len-len.result ≤ length c.args.list.now
 room c =
-    let r = field_room c.record_at-h.result c.args.file.now c.part-values.result.now c.args.head c.args.end c.requires.0 c.record_at-h.ensures.read (values-are (record { before = c.before.before; type_inv = record { heads = c.before.before.shared_slice_known-2-1.given; file = c.before.before.shared_slice_known-1.given } })) (length c.args.list.now) c.requires.2 in
+    let r = field_room c.record_at-h.result c.args.file.now c.part-values.result.now c.args.head c.args.end c.requires.0 c.record_at-h.ensures.read (values-are (record { before = c.before.before; type_inv = record { heads = c.shared_slice_known-2-1.given; file = c.shared_slice_known-1.given } })) (length c.args.list.now) c.requires.2 in
     omega (arith, long c)
 
 pub slice_bounds-lay_domain-end : goal.slice_bounds-lay_domain-end

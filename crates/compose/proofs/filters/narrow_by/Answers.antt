@@ -49,17 +49,17 @@ narrow_listed-requires c = c.is_long_oneof.ensures c.if-is_long_oneof.true
 
 pub returns-then-is_long_oneof : goal.returns-then-is_long_oneof
 returns-then-is_long_oneof c =
-    let l = c.before.before.before.before.before.before.before.before.before.before.before.before.before.args.list.now in
+    let l = c.args.list.now in
     let e = c.narrow_listed.ensures in
     let k = narrowed (goal.at.returns-then-is_long_oneof c).Else-h-f in
     record { count = e.count ∙ ap length k; left = e.left ∙ ap (λ (z : List ℤ). over z l) k }
 
 pub narrow-requires : goal.narrow-requires
-narrow-requires c = subst (λ r. mask_in r.kind r.p ≡ true) (sym c.record-at.ensures.0) c.before.before.before.before.before.before.before.before.before.before.before.requires.mask
+narrow-requires c = subst (λ r. mask_in r.kind r.p ≡ true) (sym c.record-at.ensures.0) c.requires.mask
 
 pub returns : goal.returns
 returns c =
-    let l = c.before.before.before.before.before.before.before.before.before.before.before.before.before.args.list.now in
+    let l = c.args.list.now in
     let e = c.narrow.ensures in
     let k = narrowed (goal.at.returns c).Else-h-f in
     record { count = e.count ∙ ap length k; left = e.left ∙ ap (λ (z : List ℤ). over z l) k }

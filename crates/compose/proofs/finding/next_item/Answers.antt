@@ -25,27 +25,27 @@ pub loop-i-init : goal.loop-i-init
 loop-i-init c = let l = c.args.list.now in (omega arith, ap (least (listed l c.args.run.now) 0) (sub-zero (length l)))
 
 -- what is known of place k
-module _ (c : tie.After-lower invariant-loop-i decreases-loop-i) where
+module _ (c : After-lower-k) where
   abbrev list : List ℤ
-  list = c.before.before.before.before.before.before.args.list.now
+  list = c.args.list.now
 
   abbrev run : List ℕ
-  run = c.before.before.before.before.before.before.args.run.now
+  run = c.args.run.now
 
   abbrev places : List ℕ
-  places = c.before.before.before.before.before.before.args.places.now
+  places = c.args.places.now
 
   abbrev i : ℕ
-  i = c.before.before.before.loop.i
+  i = c.loop-i.i
 
   abbrev k : ℕ
-  k = c.lower.result
+  k = c.lower-k.result
 
   abbrev x : ℤ
   x = get_or list i (pos 0)
 
   bracket : Bracket run places x (negsuc 0x7fff_ffff_ffff_ffff) k k
-  bracket = subst (λ (z : ℤ). Bracket run places z (negsuc 0x7fff_ffff_ffff_ffff) k k) (to_z-of_z w64 x (sfits_of c.before.x.given)) c.lower.ensures
+  bracket = subst (λ (z : ℤ). Bracket run places z (negsuc 0x7fff_ffff_ffff_ffff) k k) (to_z-of_z w64 x (sfits_of c.x-1.given)) c.lower-k.ensures
 
 pub returns-then-places-k : goal.returns-then-places-k
 returns-then-places-k c =
@@ -56,9 +56,9 @@ pub p_at-p-requires : goal.p_at-p-requires
 p_at-p-requires c = c.requires.1.sorted.inside c.lower-k.result c.if-places-k.false
 
 -- the test of its p, of the numbers
-p-is : (c : After-p_at-p) → eqb (of_z w64 c.p_at-p.result) (of_z w64 (x (record { before = c.before.before.before.before; type_inv = record { places = c.before.before.before.before.shared_slice_known-2-1.given; run = c.before.before.before.before.shared_slice_known-1.given } }))) ≡ eq_z (placed (run (record { before = c.before.before.before.before; type_inv = record { places = c.before.before.before.before.shared_slice_known-2-1.given; run = c.before.before.before.before.shared_slice_known-1.given } })) (places (record { before = c.before.before.before.before; type_inv = record { places = c.before.before.before.before.shared_slice_known-2-1.given; run = c.before.before.before.before.shared_slice_known-1.given } })) (k (record { before = c.before.before.before.before; type_inv = record { places = c.before.before.before.before.shared_slice_known-2-1.given; run = c.before.before.before.before.shared_slice_known-1.given } }))).p (x (record { before = c.before.before.before.before; type_inv = record { places = c.before.before.before.before.shared_slice_known-2-1.given; run = c.before.before.before.before.shared_slice_known-1.given } }))
+p-is : (c : After-p_at-p) → eqb (of_z w64 c.p_at-p.result) (of_z w64 (x (record { before = c.before.before.before.before; type_inv = record { places = c.shared_slice_known-2-1.given; run = c.shared_slice_known-1.given } }))) ≡ eq_z (placed (run (record { before = c.before.before.before.before; type_inv = record { places = c.shared_slice_known-2-1.given; run = c.shared_slice_known-1.given } })) (places (record { before = c.before.before.before.before; type_inv = record { places = c.shared_slice_known-2-1.given; run = c.shared_slice_known-1.given } })) (k (record { before = c.before.before.before.before; type_inv = record { places = c.shared_slice_known-2-1.given; run = c.shared_slice_known-1.given } }))).p (x (record { before = c.before.before.before.before; type_inv = record { places = c.shared_slice_known-2-1.given; run = c.shared_slice_known-1.given } }))
 p-is c =
-    let a : After-lower-k = record { before = c.before.before.before.before; type_inv = record { places = c.before.before.before.before.shared_slice_known-2-1.given; run = c.before.before.before.before.shared_slice_known-1.given } } in
+    let a : After-lower-k = record { before = c.before.before.before.before; type_inv = record { places = c.shared_slice_known-2-1.given; run = c.shared_slice_known-1.given } } in
     eq_bits c.p_at-p.result (x a) (sfits_of c.p_at-p.type_inv) (sfits_of a.x-1.given) ∙ ap (λ (z : ℤ). eq_z z (x a)) c.p_at-p.ensures
 
 pub returns-then-p-x : goal.returns-then-p-x
@@ -70,14 +70,14 @@ returns-then-p-x c =
 
 -- where the search goes on
 further : (c : After-reach-next)
-    → (i (record { before = c.before.before.before.before.before.before; type_inv = record { places = c.before.before.before.before.before.before.shared_slice_known-2-1.given; run = c.before.before.before.before.before.before.shared_slice_known-1.given } }) < c.reach-next.result.0) × (c.reach-next.result.0 ≤ length (list (record { before = c.before.before.before.before.before.before; type_inv = record { places = c.before.before.before.before.before.before.shared_slice_known-2-1.given; run = c.before.before.before.before.before.before.shared_slice_known-1.given } })))
-    × (least (listed (list (record { before = c.before.before.before.before.before.before; type_inv = record { places = c.before.before.before.before.before.before.shared_slice_known-2-1.given; run = c.before.before.before.before.before.before.shared_slice_known-1.given } })) (run (record { before = c.before.before.before.before.before.before; type_inv = record { places = c.before.before.before.before.before.before.shared_slice_known-2-1.given; run = c.before.before.before.before.before.before.shared_slice_known-1.given } }))) (i (record { before = c.before.before.before.before.before.before; type_inv = record { places = c.before.before.before.before.before.before.shared_slice_known-2-1.given; run = c.before.before.before.before.before.before.shared_slice_known-1.given } })) (length (list (record { before = c.before.before.before.before.before.before; type_inv = record { places = c.before.before.before.before.before.before.shared_slice_known-2-1.given; run = c.before.before.before.before.before.before.shared_slice_known-1.given } })) - i (record { before = c.before.before.before.before.before.before; type_inv = record { places = c.before.before.before.before.before.before.shared_slice_known-2-1.given; run = c.before.before.before.before.before.before.shared_slice_known-1.given } }))
-    ≡ least (listed (list (record { before = c.before.before.before.before.before.before; type_inv = record { places = c.before.before.before.before.before.before.shared_slice_known-2-1.given; run = c.before.before.before.before.before.before.shared_slice_known-1.given } })) (run (record { before = c.before.before.before.before.before.before; type_inv = record { places = c.before.before.before.before.before.before.shared_slice_known-2-1.given; run = c.before.before.before.before.before.before.shared_slice_known-1.given } }))) c.reach-next.result.0 (length (list (record { before = c.before.before.before.before.before.before; type_inv = record { places = c.before.before.before.before.before.before.shared_slice_known-2-1.given; run = c.before.before.before.before.before.before.shared_slice_known-1.given } })) - c.reach-next.result.0))
+    → (i (record { before = c.before.before.before.before.before.before; type_inv = record { places = c.shared_slice_known-2-1.given; run = c.shared_slice_known-1.given } }) < c.reach-next.result.0) × (c.reach-next.result.0 ≤ length (list (record { before = c.before.before.before.before.before.before; type_inv = record { places = c.shared_slice_known-2-1.given; run = c.shared_slice_known-1.given } })))
+    × (least (listed (list (record { before = c.before.before.before.before.before.before; type_inv = record { places = c.shared_slice_known-2-1.given; run = c.shared_slice_known-1.given } })) (run (record { before = c.before.before.before.before.before.before; type_inv = record { places = c.shared_slice_known-2-1.given; run = c.shared_slice_known-1.given } }))) (i (record { before = c.before.before.before.before.before.before; type_inv = record { places = c.shared_slice_known-2-1.given; run = c.shared_slice_known-1.given } })) (length (list (record { before = c.before.before.before.before.before.before; type_inv = record { places = c.shared_slice_known-2-1.given; run = c.shared_slice_known-1.given } })) - i (record { before = c.before.before.before.before.before.before; type_inv = record { places = c.shared_slice_known-2-1.given; run = c.shared_slice_known-1.given } }))
+    ≡ least (listed (list (record { before = c.before.before.before.before.before.before; type_inv = record { places = c.shared_slice_known-2-1.given; run = c.shared_slice_known-1.given } })) (run (record { before = c.before.before.before.before.before.before; type_inv = record { places = c.shared_slice_known-2-1.given; run = c.shared_slice_known-1.given } }))) c.reach-next.result.0 (length (list (record { before = c.before.before.before.before.before.before; type_inv = record { places = c.shared_slice_known-2-1.given; run = c.shared_slice_known-1.given } })) - c.reach-next.result.0))
 further c =
-    let a : After-lower-k = record { before = c.before.before.before.before.before.before; type_inv = record { places = c.before.before.before.before.before.before.shared_slice_known-2-1.given; run = c.before.before.before.before.before.before.shared_slice_known-1.given } } in
+    let a : After-lower-k = record { before = c.before.before.before.before.before.before; type_inv = record { places = c.shared_slice_known-2-1.given; run = c.shared_slice_known-1.given } } in
     let s : Start = a.before.before.before.before.before.before.before in
     let p = c.p_at-p in
-    listed_jump (list a) s.requires.0 (run a) (places a) s.requires.1 (i a) a.loop-i-test.true (k a) (bracket a) c.if-places-k.false (sym (p-is (record { before = c.before.before.before; type_inv = record { places = c.before.before.before.shared_slice_known-in-loop-i-1.given; run = c.before.before.before.shared_slice_known-1.given } })) ∙ eqb_no _ _ c.if-p-x.false) c.reach-next.result.0
+    listed_jump (list a) s.requires.0 (run a) (places a) s.requires.1 (i a) a.loop-i-test.true (k a) (bracket a) c.if-places-k.false (sym (p-is (record { before = c.before.before.before; type_inv = record { places = c.shared_slice_known-in-loop-i-1.given; run = c.shared_slice_known-1.given } })) ∙ eqb_no _ _ c.if-p-x.false) c.reach-next.result.0
     (c.reach-next.ensures ∙ ap (λ (z : ℤ). least (not_below (list a) z) (i a + 1) (length (list a) - (i a + 1))) (to_z-of_z w64 p.result (sfits_of p.type_inv) ∙ p.ensures))
 
 pub loop-i-smaller : goal.loop-i-smaller

@@ -19,7 +19,7 @@ use Rattle.spec.specs.Record.{Record, record_at, record_of}
 use Rattle.registry.proofs.Looked.{q_lowest}
 use Rattle.registry.specs.Index.{Bracket, Spans, is_below, placed}
 use Rattle.compose.proofs.Spanned.{apart}
-use Rattle.compose.proofs.finding.span_of.Goals.{Then-x-eq9223372036854775807}
+use Rattle.compose.proofs.finding.span_of.Goals.{Else-x-eq9223372036854775807, Then-x-eq9223372036854775807}
 use Rattle.compose.proofs.finding.span_of.Goals as goal
 
 abbrev lowest : ℤ
@@ -113,18 +113,18 @@ pub returns-then-x-eq9223372036854775807 : goal.returns-then-x-eq922337203685477
 returns-then-x-eq9223372036854775807 c = to_end c.args.run.now c.args.places.now c.args.v.0 c.lower-low.result c.lower-low.ensures (last (goal.at.returns-then-x-eq9223372036854775807 c).Then-x-eq9223372036854775807)
 
 -- v is read from its bits
-module _ (c : tie.Else1) where
+module _ (c : Else-x-eq9223372036854775807) where
   abbrev v : ℤ
-  v = c.before.before.before.before.before.args.v.0
+  v = c.args.v.0
 
   v-fits : SFits w64 v
-  v-fits = sfits_of c.before.before.struct_told.given.0.1
+  v-fits = sfits_of c.struct_told-1.given.0.1
 
   value : to_z w64 (of_z w64 v) ≡ v
   value = to_z-of_z w64 v v-fits
 
   fits : SFits w64 (v +ℤ pos 1)
-  fits = next_fits v v-fits c.if1.false
+  fits = next_fits v v-fits c.if-x-eq9223372036854775807.false
 
 pub overflow_add-x : goal.overflow_add-x
 overflow_add-x c = subst (λ (x : ℤ). SFits w64 (x +ℤ pos 1)) (sym (value (goal.at.overflow_add-x c).Else-x-eq9223372036854775807)) (fits (goal.at.overflow_add-x c).Else-x-eq9223372036854775807)

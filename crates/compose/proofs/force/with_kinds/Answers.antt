@@ -24,7 +24,7 @@ here c = sym (ap (λ (n : ℕ). eqb n c.args.a || eqb n c.args.b) c.code_at-code
 room : (c : Then-code-a) → c.loop-k.count < length c.args.numbers.now
 room c =
     let l = c.loop-k in
-    picked_room c.args.file.now c.args.heads.now c.args.a c.args.b c.args.numbers.now c.args.before l.numbers l.count (l.k - 1) l.invariant.1 c.requires.1 (omega arith) (here (record { before = c.before.before; type_inv = record { heads = c.before.before.shared_slice_known-in-loop-k-1.given; file = c.before.before.shared_slice_known-1.given } }) ∙ c.if-code-a.true)
+    picked_room c.args.file.now c.args.heads.now c.args.a c.args.b c.args.numbers.now c.args.before l.numbers l.count (l.k - 1) l.invariant.1 c.requires.1 (omega arith) (here (record { before = c.before.before; type_inv = record { heads = c.shared_slice_known-in-loop-k-1.given; file = c.shared_slice_known-1.given } }) ∙ c.if-code-a.true)
 
 pub loop-k-init : goal.loop-k-init
 loop-k-init c =

@@ -49,7 +49,7 @@ a_at-requires c =
 -- its child is a field
 child : (c : After-b_at-f) → c.b_at-f.result < 32
 child c =
-    let b = (head_in (record { before = c.before.before.before.before.before; type_inv = record { heads = c.before.before.before.before.before.shared_slice_known-2-1.given; file = c.before.before.before.before.before.shared_slice_known-1.given } })).b-below in
+    let b = (head_in (record { before = c.before.before.before.before.before; type_inv = record { heads = c.shared_slice_known-2-1.given; file = c.shared_slice_known-1.given } })).b-below in
     let few = c.requires.0 in
     let e = c.b_at-f.ensures.0 in
     omega arith

@@ -24,22 +24,20 @@ use Rattle.evaluate.proofs.Rows.{behind-none, fields_end, fields_more, fields-pa
 use Rattle.evaluate.proofs.checks.failing_field.Goals.{After-allows_value, In-loop-f, Joined-row-f}
 use Rattle.evaluate.proofs.checks.failing_field.Goals as goal
 
-module _ (c : tie.In-loop invariant-loop-f decreases-loop-f) where
-  abbrev start : tie.Start invariant-loop-f decreases-loop-f
-  start = c.before.before.before.before
+module _ (c : In-loop-f) where
 
   abbrev head : ℕ
-  head = get_or start.args.fields.now c.before.loop.f 0
+  head = get_or c.args.fields.now c.loop-f.f 0
 
   abbrev end : ℕ
-  end = get_or start.args.fields.now (suc c.before.loop.f) 0
+  end = get_or c.args.fields.now (suc c.loop-f.f) 0
 
   -- the field of a turn allows its value in a row
   abbrev allowed : List ℤ → Bool
-  allowed row = allows (field_at start.args.file.now head end) (get_or row c.before.loop.f (pos 0))
+  allowed row = allows (field_at c.args.file.now head end) (get_or row c.loop-f.f (pos 0))
 
-  at_field : FieldIn start.args.file.now head end
-  at_field = let w = start.pre.1 in start.pre.0 c.before.loop.f (omega arith)
+  at_field : FieldIn c.args.file.now head end
+  at_field = let w = c.requires.1 in c.requires.0 c.loop-f.f (omega arith)
 
 pub loop-f-init : goal.loop-f-init
 loop-f-init c = (omega arith, behind-none (first_false (field_checks (fields_in c.args.file.now c.args.fields.now) c.args.row.now)), c.requires.3)
@@ -84,15 +82,15 @@ pub allows_value-requires : goal.allows_value-requires
 allows_value-requires c =
     let i = (goal.at.allows_value-requires c).In-loop-f in
     let r = c.record_at-h in
-    (field_scaled r.result (start i).args.file.now (head i) (end i) (at_field i) r.ensures.read).r-natural
+    (field_scaled r.result i.args.file.now (head i) (end i) (at_field i) r.ensures.read).r-natural
 
 -- the answer of allows_value
-tested : (c : After-allows_value) → allowed (record { before = c.before.before.before.before.before.before.before.before.before.before; type_inv = record { fields = c.before.before.before.before.before.before.before.before.before.before.shared_slice_known-2-1.given; file = c.before.before.before.before.before.before.before.before.before.before.shared_slice_known-1.given } }) c.args.row.now ≡ c.allows_value.result
+tested : (c : After-allows_value) → allowed (record { before = c.before.before.before.before.before.before.before.before.before.before; type_inv = record { fields = c.shared_slice_known-2-1.given; file = c.shared_slice_known-1.given } }) c.args.row.now ≡ c.allows_value.result
 tested c =
-    let i : In-loop-f = record { before = c.before.before.before.before.before.before.before.before.before.before; type_inv = record { fields = c.before.before.before.before.before.before.before.before.before.before.shared_slice_known-2-1.given; file = c.before.before.before.before.before.before.before.before.before.before.shared_slice_known-1.given } } in
+    let i : In-loop-f = record { before = c.before.before.before.before.before.before.before.before.before.before; type_inv = record { fields = c.shared_slice_known-2-1.given; file = c.shared_slice_known-1.given } } in
     let r = c.record_at-h in
     let p = c.part-values in
-    ap₂ (λ (h : Record) (ms : List Record). allows (field_by h.b h ms) (get_or (start i).args.row.now i.loop-f.f (pos 0))) (sym r.ensures.read) (sym (p.ensures.records ∙ rw (add-one i.loop-f.f, add-one (head i))))
+    ap₂ (λ (h : Record) (ms : List Record). allows (field_by h.b h ms) (get_or i.args.row.now i.loop-f.f (pos 0))) (sym r.ensures.read) (sym (p.ensures.records ∙ rw (add-one i.loop-f.f, add-one (head i))))
     ∙ sym (c.allows_value.ensures ∙ ap (allows (field_by r.result.b (as_record r.result) (records_of p.result.now))) (to_z-of_z w64 _ (sfits_of c.allows_value-arg-1.given)))
 
 pub returns-then-not-allows_value : goal.returns-then-not-allows_value
@@ -100,18 +98,18 @@ returns-then-not-allows_value c =
     let i = (goal.at.returns-then-not-allows_value c).In-loop-f in
     let s = start i in
     let l = i.loop-f in
-    sym (l.invariant.1 ∙ fields-stop s.args.file.now s.args.fields.now s.args.row.now l.f s.pre.0 s.pre.1 (omega arith) (tested (goal.at.returns-then-not-allows_value c).After-allows_value ∙ c.if-not-allows_value.true))
+    sym (l.invariant.1 ∙ fields-stop s.args.file.now s.args.fields.now s.args.row.now l.f s.requires.0 s.requires.1 (omega arith) (tested (goal.at.returns-then-not-allows_value c).After-allows_value ∙ c.if-not-allows_value.true))
 
 -- a value that the turn goes past is allowed: by that answer, or because it is the raw one
-passes : (c : Joined-row-f) → allowed (record { before = c.before.before.before.before; type_inv = record { fields = c.before.before.before.before.shared_slice_known-2-1.given; file = c.before.before.before.before.shared_slice_known-1.given } }) c.args.raw.now ≡ true → allowed (record { before = c.before.before.before.before; type_inv = record { fields = c.before.before.before.before.shared_slice_known-2-1.given; file = c.before.before.before.before.shared_slice_known-1.given } }) c.args.row.now ≡ true
+passes : (c : Joined-row-f) → allowed (record { before = c.before.before.before.before; type_inv = record { fields = c.shared_slice_known-2-1.given; file = c.shared_slice_known-1.given } }) c.args.raw.now ≡ true → allowed (record { before = c.before.before.before.before; type_inv = record { fields = c.shared_slice_known-2-1.given; file = c.shared_slice_known-1.given } }) c.args.row.now ≡ true
 passes c raw =
     ⊎_elim
     (λ u.
-    tested (record { before = record { before = record { before = record { before = record { before = record { before = record { before = (record { before = c.before.before; type_inv = record { fields = c.before.before.shared_slice_known-2-1.given; file = c.before.before.shared_slice_known-1.given } }); if1 = u.0 }; shared-slice-known3 = u.1 }; record-at = u.2 }; shared-slice-known4 = u.3 }; part = u.4 }; t24 = u.5 }; allows-value = u.6 })
+    tested (record { before = record { before = record { before = record { before = record { before = record { before = record { before = (record { before = c.before.before; type_inv = record { fields = c.shared_slice_known-2-1.given; file = c.shared_slice_known-1.given } }); if1 = u.0 }; shared-slice-known3 = u.1 }; record-at = u.2 }; shared-slice-known4 = u.3 }; part = u.4 }; t24 = u.5 }; allows-value = u.6 })
     ∙ not-false _ u.7.left)
     (λ u.
-    let i : In-loop-f = record { before = c.before.before.before.before; type_inv = record { fields = c.before.before.before.before.shared_slice_known-2-1.given; file = c.before.before.before.before.shared_slice_known-1.given } } in
-    ap (allows (field_at (start i).args.file.now (head i) (end i))) (sym (to_z-of_z w64 _ (sfits_of c.t12-1.given)) ∙ ap (to_z w64) u.left ∙ to_z-of_z w64 _ (sfits_of c.t15-1.given)) ∙ raw)
+    let i : In-loop-f = record { before = c.before.before.before.before; type_inv = record { fields = c.shared_slice_known-2-1.given; file = c.shared_slice_known-1.given } } in
+    ap (allows (field_at i.args.file.now (head i) (end i))) (sym (to_z-of_z w64 _ (sfits_of c.t12-1.given)) ∙ ap (to_z w64) u.left ∙ to_z-of_z w64 _ (sfits_of c.t15-1.given)) ∙ raw)
     c.if-row-f.branch
 
 pub loop-f-preserved : goal.loop-f-preserved
@@ -121,8 +119,8 @@ loop-f-preserved c =
     let l = i.loop-f in
     let file = s.args.file.now in
     let fields = s.args.fields.now in
-    let raw = fields-passed file fields s.args.raw.now l.f s.pre.0 (omega arith) (omega arith) l.invariant.2 in
-    (omega arith, l.invariant.1 ∙ fields_more file fields s.args.row.now l.f s.pre.0 s.pre.1 (omega arith) (passes (goal.at.loop-f-preserved c).Joined-row-f raw.0), raw.1)
+    let raw = fields-passed file fields s.args.raw.now l.f s.requires.0 (omega arith) (omega arith) l.invariant.2 in
+    (omega arith, l.invariant.1 ∙ fields_more file fields s.args.row.now l.f s.requires.0 s.requires.1 (omega arith) (passes (goal.at.loop-f-preserved c).Joined-row-f raw.0), raw.1)
 
 pub returns : goal.returns
 returns c =

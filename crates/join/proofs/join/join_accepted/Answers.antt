@@ -18,10 +18,10 @@ use Rattle.join.proofs.join.join_accepted.Goals as goal
 
 -- the two shapes
 first-shape : (c : Start) → Shaped c.args.first.now c.args.s
-first-shape c = shaped c.args.first.now c.args.s c.pre.0 c.pre.2
+first-shape c = shaped c.args.first.now c.args.s c.requires.0 c.requires.2
 
 second-shape : (c : Start) → Shaped c.args.second.now c.args.t
-second-shape c = shaped c.args.second.now c.args.t c.pre.1 c.pre.3
+second-shape c = shaped c.args.second.now c.args.t c.requires.1 c.requires.3
 
 pub code_at-requires : goal.code_at-requires
 code_at-requires c = (first-shape (goal.at.code_at-requires c).Start).ranges.inside
@@ -35,7 +35,7 @@ returns-then-code_at-ne30 c =
     let u = first-shape s in
     let no : is_sum (decoded s.args.first.now).projector ≡ false = sum_no u c.code_at.result c.code_at.ensures (omega arith) in
     let at : s.args.s.projector_at + 1 ≡ projector_at s.args.first.now = add-one s.args.s.projector_at ∙ sym u.ranges.projector-range in
-    let fault = fault_sum_first (length s.args.out.now) s.args.first.now s.args.second.now s.pre.0 s.pre.1 no ∙ ap (λ (n : ℕ). some (refusal_of first 16 n)) (sym at) in
+    let fault = fault_sum_first (length s.args.out.now) s.args.first.now s.args.second.now s.requires.0 s.requires.1 no ∙ ap (λ (n : ℕ). some (refusal_of first 16 n)) (sym at) in
     let why = refusal_of first 16 (s.args.s.projector_at + 1) in
     record { answer = c.refuse.ensures ∙ answer-refused (length s.args.out.now) s.args.first.now s.args.second.now why fault; out = output_refused s.args.first.now s.args.second.now s.args.out.now why fault }
 
@@ -58,7 +58,7 @@ returns-then-code_at-ne30-2 c =
     let yes = first-sum (goal.at.returns-then-code_at-ne30-2 c).Else-code_at-ne30 in
     let no : is_sum (decoded s.args.second.now).projector ≡ false = sum_no u c.code_at-2.result c.code_at-2.ensures (omega arith) in
     let at : s.args.t.projector_at + 1 ≡ projector_at s.args.second.now = add-one s.args.t.projector_at ∙ sym u.ranges.projector-range in
-    let fault = fault_sum_second (length s.args.out.now) s.args.first.now s.args.second.now s.pre.0 s.pre.1 yes no ∙ ap (λ (n : ℕ). some (refusal_of second 16 n)) (sym at) in
+    let fault = fault_sum_second (length s.args.out.now) s.args.first.now s.args.second.now s.requires.0 s.requires.1 yes no ∙ ap (λ (n : ℕ). some (refusal_of second 16 n)) (sym at) in
     let why = refusal_of second 16 (s.args.t.projector_at + 1) in
     record { answer = c.refuse-then-code_at-ne30-2.ensures ∙ answer-refused (length s.args.out.now) s.args.first.now s.args.second.now why fault; out = output_refused s.args.first.now s.args.second.now s.args.out.now why fault }
 
@@ -68,7 +68,7 @@ numbered c =
     let s : Start = c.before.before.before.before.before.before.before.before.before.before.before in
     let u = second-shape s in
     let yes : is_sum (decoded s.args.second.now).projector ≡ true = sum_yes u c.code_at-2.result c.code_at-2.ensures (omega arith) in
-    fault_number (first-shape s) u (length s.args.out.now) s.pre.0 s.pre.1 (first-sum (record { before = c.before.before.before.before.before.before; type_inv = record { out = c.before.before.before.before.before.before.slice_known-1.given; second = c.before.before.before.before.before.before.shared_slice_known-2-1.given; first = c.before.before.before.before.before.before.shared_slice_known-1.given } })) yes ∙ ap (λ (n : ℕ). of joined (refuse n 0)) (sym c.joined_number-number.ensures)
+    fault_number (first-shape s) u (length s.args.out.now) s.requires.0 s.requires.1 (first-sum (record { before = c.before.before.before.before.before.before; type_inv = record { out = c.slice_known-1.given; second = c.shared_slice_known-2-1.given; first = c.shared_slice_known-1.given } })) yes ∙ ap (λ (n : ℕ). of joined (refuse n 0)) (sym c.joined_number-number.ensures)
 
 -- and it is short enough to be counted
 sizes : (c : Start) → (c.args.s.projector_at < 2048) × (c.args.t.projector_at < 2048)
@@ -107,7 +107,7 @@ returns-then-number-ne0 c =
 unfaulted : (c : Else-number-ne0) → join_fault (length c.args.out.now) c.args.first.now c.args.second.now ≡ none
 unfaulted c =
     let z : c.joined_number-number.result ≡ 0 = omega arith in
-    numbered (record { before = c.before.before; type_inv = record { out = c.before.before.slice_known-1.given; second = c.before.before.shared_slice_known-2-1.given; first = c.before.before.shared_slice_known-1.given } }) ∙ ap (λ (n : ℕ). of joined (refuse n 0)) z
+    numbered (record { before = c.before.before; type_inv = record { out = c.slice_known-1.given; second = c.shared_slice_known-2-1.given; first = c.shared_slice_known-1.given } }) ∙ ap (λ (n : ℕ). of joined (refuse n 0)) z
 
 fitting : (c : Else-number-ne0) → (c.args.s.fields + c.args.t.fields ≤ 32) × ((c.args.s.projector_at + c.args.t.projector_at + 1) * 32 ≤ length c.args.out.now)
 fitting c =     number-zero (c.args.s.fields + c.args.t.fields) (c.args.s.constraints + c.args.t.constraints) ((c.args.s.projector_at + c.args.t.projector_at + 1) * 32) (total_by c.args.s.fields c.args.t.fields c.args.s.total c.args.t.total) (length c.args.out.now) (sym c.joined_number-number.ensures ∙ (let z : c.joined_number-number.result ≡ 0 = omega arith in z))
@@ -121,7 +121,7 @@ slice_bounds-write_joined-end-2 c = sym (length-take-le ((c.args.s.projector_at 
 pub write_joined-requires : goal.write_joined-requires
 write_joined-requires c =
     let s = (goal.at.write_joined-requires c).Start in
-    (s.pre.0, s.pre.1, s.pre.2, s.pre.3, (fitting (goal.at.write_joined-requires c).Else-number-ne0).0, length-take-le ((s.args.s.projector_at + s.args.t.projector_at + 1) * 32) s.args.out.now (fitting (goal.at.write_joined-requires c).Else-number-ne0).1 ∙ sym (join-length (first-shape s) (second-shape s)))
+    (s.requires.0, s.requires.1, s.requires.2, s.requires.3, (fitting (goal.at.write_joined-requires c).Else-number-ne0).0, length-take-le ((s.args.s.projector_at + s.args.t.projector_at + 1) * 32) s.args.out.now (fitting (goal.at.write_joined-requires c).Else-number-ne0).1 ∙ sym (join-length (first-shape s) (second-shape s)))
 
 pub returns : goal.returns
 returns c =

@@ -15,10 +15,10 @@ use Rattle.join.proofs.join.write_joined.Goals as goal
 
 -- the two shapes
 first-shape : (c : Start) → Shaped c.args.first.now c.args.s
-first-shape c = shaped c.args.first.now c.args.s c.pre.0 c.pre.2
+first-shape c = shaped c.args.first.now c.args.s c.requires.0 c.requires.2
 
 second-shape : (c : Start) → Shaped c.args.second.now c.args.t
-second-shape c = shaped c.args.second.now c.args.t c.pre.1 c.pre.3
+second-shape c = shaped c.args.second.now c.args.t c.requires.1 c.requires.3
 
 -- the places where records stand, and the length of the output
 record Placed (c : tie.Start) : Type 0 where
@@ -36,7 +36,7 @@ placed c =
     let j = v.ranges.inside in
     let l = u.short in
     let m = v.short in
-    record { rising₁ = u.ranges.rising; rising₂ = v.ranges.rising; below₁ = omega arith; below₂ = omega arith; long = c.pre.5 ∙ join-length u v }
+    record { rising₁ = u.ranges.rising; rising₂ = v.ranges.rising; below₁ = omega arith; below₂ = omega arith; long = c.requires.5 ∙ join-length u v }
 
 pub overflow_mul-a : goal.overflow_mul-a
 overflow_mul-a c = let w = placed (goal.at.overflow_mul-a c).Start in let x = w.rising₁ in let y = w.rising₂ in let z = w.below₁ in let q = w.below₂ in omega arith
@@ -95,16 +95,16 @@ abbrev s₂ : After-slice_known-2-1 → Start
 s₂ c = c.before.before.before.before.before.before.before.before.before.before.before.before.before
 
 abbrev s₃ : After-slice_known-3-1 → Start
-s₃ c = s₂ (record { before = c.before.before.before.before.before; type_inv = record { out = c.before.before.before.before.before.slice_known-2-1.given; second = c.before.before.before.before.before.shared_slice_known-2-1.given; first = c.before.before.before.before.before.shared_slice_known-1.given } })
+s₃ c = s₂ (record { before = c.before.before.before.before.before; type_inv = record { out = c.slice_known-2-1.given; second = c.shared_slice_known-2-1.given; first = c.shared_slice_known-1.given } })
 
 abbrev s₄ : After-slice_known-4-1 → Start
-s₄ c = s₃ (record { before = c.before.before.before.before.before; type_inv = record { out = c.before.before.before.before.before.slice_known-3-1.given; second = c.before.before.before.before.before.shared_slice_known-2-1.given; first = c.before.before.before.before.before.shared_slice_known-1.given } })
+s₄ c = s₃ (record { before = c.before.before.before.before.before; type_inv = record { out = c.slice_known-3-1.given; second = c.shared_slice_known-2-1.given; first = c.shared_slice_known-1.given } })
 
 abbrev s₅ : After-slice_known-5-1 → Start
-s₅ c = s₄ (record { before = c.before.before.before.before.before; type_inv = record { out = c.before.before.before.before.before.slice_known-4-1.given; second = c.before.before.before.before.before.shared_slice_known-2-1.given; first = c.before.before.before.before.before.shared_slice_known-1.given } })
+s₅ c = s₄ (record { before = c.before.before.before.before.before; type_inv = record { out = c.slice_known-4-1.given; second = c.shared_slice_known-2-1.given; first = c.shared_slice_known-1.given } })
 
 abbrev s₆ : After-slice_known-6-1 → Start
-s₆ c = s₅ (record { before = c.before.before.before.before.before; type_inv = record { out = c.before.before.before.before.before.slice_known-5-1.given; second = c.before.before.before.before.before.shared_slice_known-2-1.given; first = c.before.before.before.before.before.shared_slice_known-1.given } })
+s₆ c = s₅ (record { before = c.before.before.before.before.before; type_inv = record { out = c.slice_known-5-1.given; second = c.shared_slice_known-2-1.given; first = c.shared_slice_known-1.given } })
 
 -- each part ends inside the output
 within₁ : (c : Start) → end₁ c ≤ length c.args.out.now
@@ -149,13 +149,13 @@ put_records-requires-2 c =
 
 -- after the second
 abbrev out₂ : After-slice_known-3-1 → List ℕ
-out₂ c = put_mid (end₁ (s₃ c)) (end₂ (s₃ c) - end₁ (s₃ c)) (out₁ (record { before = c.before.before.before.before.before; type_inv = record { out = c.before.before.before.before.before.slice_known-2-1.given; second = c.before.before.before.before.before.shared_slice_known-2-1.given; first = c.before.before.before.before.before.shared_slice_known-1.given } })) c.put_records-2.last.1.1.1.1.0
+out₂ c = put_mid (end₁ (s₃ c)) (end₂ (s₃ c) - end₁ (s₃ c)) (out₁ (record { before = c.before.before.before.before.before; type_inv = record { out = c.slice_known-2-1.given; second = c.shared_slice_known-2-1.given; first = c.shared_slice_known-1.given } })) c.put_records-2.last.1.1.1.1.0
 
 done₂ : (c : After-slice_known-3-1) → (take (end₂ (s₃ c)) (out₂ c) ≡ part₁ (s₃ c) ++ part₂ (s₃ c)) × (length (out₂ c) ≡ length (s₃ c).args.out.now)
 done₂ c =
     let p = c.put_records-2 in
-    let q = done₁ (record { before = c.before.before.before.before.before; type_inv = record { out = c.before.before.before.before.before.slice_known-2-1.given; second = c.before.before.before.before.before.shared_slice_known-2-1.given; first = c.before.before.before.before.before.shared_slice_known-1.given } }) in
-    put_behind (length (s₃ c).args.out.now) (out₁ (record { before = c.before.before.before.before.before; type_inv = record { out = c.before.before.before.before.before.slice_known-2-1.given; second = c.before.before.before.before.before.shared_slice_known-2-1.given; first = c.before.before.before.before.before.shared_slice_known-1.given } })) p.last.1.1.1.1.0 (part₂ (s₃ c)) q.1 p.ensures (end₁ (s₃ c)) ((s₃ c).args.t.constraints_at * 32) (part₁ (s₃ c)) q.0 (within₂ (s₃ c)) p.kept.1.1.1.1.0
+    let q = done₁ (record { before = c.before.before.before.before.before; type_inv = record { out = c.slice_known-2-1.given; second = c.shared_slice_known-2-1.given; first = c.shared_slice_known-1.given } }) in
+    put_behind (length (s₃ c).args.out.now) (out₁ (record { before = c.before.before.before.before.before; type_inv = record { out = c.slice_known-2-1.given; second = c.shared_slice_known-2-1.given; first = c.shared_slice_known-1.given } })) p.last.1.1.1.1.0 (part₂ (s₃ c)) q.1 p.ensures (end₁ (s₃ c)) ((s₃ c).args.t.constraints_at * 32) (part₁ (s₃ c)) q.0 (within₂ (s₃ c)) p.kept.1.1.1.1.0
 
 pub slice_bounds-put_records-end-4 : goal.slice_bounds-put_records-end-4
 slice_bounds-put_records-end-4 c = let l = (done₂ (goal.at.slice_bounds-put_records-end-4 c).After-slice_known-3-1).1 in let h = within₃ (s₃ (goal.at.slice_bounds-put_records-end-4 c).After-slice_known-3-1) in omega arith
@@ -169,13 +169,13 @@ put_records-requires-3 c =
 
 -- after the third
 abbrev out₃ : After-slice_known-4-1 → List ℕ
-out₃ c = put_mid (end₂ (s₄ c)) (end₃ (s₄ c) - end₂ (s₄ c)) (out₂ (record { before = c.before.before.before.before.before; type_inv = record { out = c.before.before.before.before.before.slice_known-3-1.given; second = c.before.before.before.before.before.shared_slice_known-2-1.given; first = c.before.before.before.before.before.shared_slice_known-1.given } })) c.put_records-3.last.1.1.1.1.0
+out₃ c = put_mid (end₂ (s₄ c)) (end₃ (s₄ c) - end₂ (s₄ c)) (out₂ (record { before = c.before.before.before.before.before; type_inv = record { out = c.slice_known-3-1.given; second = c.shared_slice_known-2-1.given; first = c.shared_slice_known-1.given } })) c.put_records-3.last.1.1.1.1.0
 
 done₃ : (c : After-slice_known-4-1) → (take (end₃ (s₄ c)) (out₃ c) ≡ (part₁ (s₄ c) ++ part₂ (s₄ c)) ++ part₃ (s₄ c)) × (length (out₃ c) ≡ length (s₄ c).args.out.now)
 done₃ c =
     let p = c.put_records-3 in
-    let q = done₂ (record { before = c.before.before.before.before.before; type_inv = record { out = c.before.before.before.before.before.slice_known-3-1.given; second = c.before.before.before.before.before.shared_slice_known-2-1.given; first = c.before.before.before.before.before.shared_slice_known-1.given } }) in
-    put_behind (length (s₄ c).args.out.now) (out₂ (record { before = c.before.before.before.before.before; type_inv = record { out = c.before.before.before.before.before.slice_known-3-1.given; second = c.before.before.before.before.before.shared_slice_known-2-1.given; first = c.before.before.before.before.before.shared_slice_known-1.given } })) p.last.1.1.1.1.0 (part₃ (s₄ c)) q.1 p.ensures (end₂ (s₄ c)) (((s₄ c).args.s.projector_at - (s₄ c).args.s.constraints_at) * 32) (part₁ (s₄ c) ++ part₂ (s₄ c)) q.0 (within₃ (s₄ c)) p.kept.1.1.1.1.0
+    let q = done₂ (record { before = c.before.before.before.before.before; type_inv = record { out = c.slice_known-3-1.given; second = c.shared_slice_known-2-1.given; first = c.shared_slice_known-1.given } }) in
+    put_behind (length (s₄ c).args.out.now) (out₂ (record { before = c.before.before.before.before.before; type_inv = record { out = c.slice_known-3-1.given; second = c.shared_slice_known-2-1.given; first = c.shared_slice_known-1.given } })) p.last.1.1.1.1.0 (part₃ (s₄ c)) q.1 p.ensures (end₂ (s₄ c)) (((s₄ c).args.s.projector_at - (s₄ c).args.s.constraints_at) * 32) (part₁ (s₄ c) ++ part₂ (s₄ c)) q.0 (within₃ (s₄ c)) p.kept.1.1.1.1.0
 
 pub slice_bounds-put_records-end-5 : goal.slice_bounds-put_records-end-5
 slice_bounds-put_records-end-5 c = let l = (done₃ (goal.at.slice_bounds-put_records-end-5 c).After-slice_known-4-1).1 in let h = within₄ (s₄ (goal.at.slice_bounds-put_records-end-5 c).After-slice_known-4-1) in omega arith
@@ -189,14 +189,14 @@ put_records-requires-4 c =
 
 -- after the fourth
 abbrev out₄ : After-slice_known-5-1 → List ℕ
-out₄ c = put_mid (end₃ (s₅ c)) (end₄ (s₅ c) - end₃ (s₅ c)) (out₃ (record { before = c.before.before.before.before.before; type_inv = record { out = c.before.before.before.before.before.slice_known-4-1.given; second = c.before.before.before.before.before.shared_slice_known-2-1.given; first = c.before.before.before.before.before.shared_slice_known-1.given } })) c.put_records-4.last.1.1.1.1.0
+out₄ c = put_mid (end₃ (s₅ c)) (end₄ (s₅ c) - end₃ (s₅ c)) (out₃ (record { before = c.before.before.before.before.before; type_inv = record { out = c.slice_known-4-1.given; second = c.shared_slice_known-2-1.given; first = c.shared_slice_known-1.given } })) c.put_records-4.last.1.1.1.1.0
 
 done₄ : (c : After-slice_known-5-1) → (take (end₄ (s₅ c)) (out₄ c) ≡ ((part₁ (s₅ c) ++ part₂ (s₅ c)) ++ part₃ (s₅ c)) ++ part₄ (s₅ c)) × (length (out₄ c) ≡ length (s₅ c).args.out.now)
 done₄ c =
     let p = c.put_records-4 in
-    let q = done₃ (record { before = c.before.before.before.before.before; type_inv = record { out = c.before.before.before.before.before.slice_known-4-1.given; second = c.before.before.before.before.before.shared_slice_known-2-1.given; first = c.before.before.before.before.before.shared_slice_known-1.given } }) in
+    let q = done₃ (record { before = c.before.before.before.before.before; type_inv = record { out = c.slice_known-4-1.given; second = c.shared_slice_known-2-1.given; first = c.shared_slice_known-1.given } }) in
     let h = within₄ (s₅ c) in
-    put_behind (length (s₅ c).args.out.now) (out₃ (record { before = c.before.before.before.before.before; type_inv = record { out = c.before.before.before.before.before.slice_known-4-1.given; second = c.before.before.before.before.before.shared_slice_known-2-1.given; first = c.before.before.before.before.before.shared_slice_known-1.given } })) p.last.1.1.1.1.0 (part₄ (s₅ c)) q.1 p.ensures (end₃ (s₅ c)) (((s₅ c).args.t.projector_at - (s₅ c).args.t.constraints_at) * 32) ((part₁ (s₅ c) ++ part₂ (s₅ c)) ++ part₃ (s₅ c)) q.0 (omega arith) p.kept.1.1.1.1.0
+    put_behind (length (s₅ c).args.out.now) (out₃ (record { before = c.before.before.before.before.before; type_inv = record { out = c.slice_known-4-1.given; second = c.shared_slice_known-2-1.given; first = c.shared_slice_known-1.given } })) p.last.1.1.1.1.0 (part₄ (s₅ c)) q.1 p.ensures (end₃ (s₅ c)) (((s₅ c).args.t.projector_at - (s₅ c).args.t.constraints_at) * 32) ((part₁ (s₅ c) ++ part₂ (s₅ c)) ++ part₃ (s₅ c)) q.0 (omega arith) p.kept.1.1.1.1.0
 
 pub slice_bounds-put_sum-count : goal.slice_bounds-put_sum-count
 slice_bounds-put_sum-count c = let l = (done₄ (goal.at.slice_bounds-put_sum-count c).After-slice_known-5-1).1 in let h = within₄ (s₅ (goal.at.slice_bounds-put_sum-count c).After-slice_known-5-1) in omega arith

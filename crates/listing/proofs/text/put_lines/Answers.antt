@@ -33,21 +33,21 @@ below c =
     omega (arith, line_below args.count args.width c.loop-i.i c.loop-i-test.true, (asked c.before.before.before).1)
 
 -- the words of this line
-module _ (c : tie.In-loop invariant-loop-i decreases-loop-i) where
+module _ (c : In-loop-i) where
   abbrev width : ℕ
-  width = c.before.before.before.args.width
+  width = c.args.width
 
   abbrev start : ℕ
-  start = c.before.loop.i * width
+  start = c.loop-i.i * width
 
   abbrev left : List ℤ
-  left = drop start c.before.before.before.args.words.now
+  left = drop start c.args.words.now
 
   wide : start + width - start ≡ width
   wide = omega arith
 
   long : length (take width left) ≡ width
-  long = length-take-le width left (omega (arith, below c, length-drop start c.before.before.before.args.words.now))
+  long = length-take-le width left (omega (arith, below c, length-drop start c.args.words.now))
 
 pub overflow_mul-from : goal.overflow_mul-from
 overflow_mul-from c = let h = below (goal.at.overflow_mul-from c).In-loop-i in search rules

@@ -19,44 +19,43 @@ use Rattle.spec.proofs.Fields.{kind_of_lem}
 use Rattle.registry.specs.Check.{value_at}
 use Rattle.registry.specs.Code.{mask_in, passes, test_in}
 use Rattle.registry.proofs.Constraints.{checked, of_cross, of_eq, of_neq, of_one, of_oneof, of_two}
+use Rattle.registry.proofs.check.check.Goals.{After-w-1}
 use Rattle.registry.proofs.check.check.Goals as goal
 
 -- the head, its members and the row
-module _ (c : tie.After-t132) where
-  abbrev s : tie.Start
-  s = c.before.before.before.before.before.before.before
+module _ (c : After-w-1) where
 
   abbrev h : Record
-  h = record_at s.args.file.now s.args.head
+  h = record_at c.args.file.now c.args.head
 
   abbrev ms : List Record
-  ms = take (s.args.end - suc s.args.head) (drop (suc s.args.head) (records_of s.args.file.now))
+  ms = take (c.args.end - suc c.args.head) (drop (suc c.args.head) (records_of c.args.file.now))
 
   abbrev row : List ℤ
-  row = s.args.row.now
+  row = c.args.row.now
 
   abbrev code : ℕ
-  code = c.before.before.before.before.code_at.result
+  code = c.code_at-code.result
 
   kind-read : kind_of code ≡ h.kind
-  kind-read = ap kind_of c.before.before.before.before.code_at.ensures ∙ sym (kind_of_lem s.args.file.now s.args.head)
+  kind-read = ap kind_of c.code_at-code.ensures ∙ sym (kind_of_lem c.args.file.now c.args.head)
 
-  a_read : held (get_or row c.before.before.before.a_at.result (pos 0)) ≡ value_at row h.a
-  a_read = to_z-of_z w64 _ (sfits_of c.before.t13.given) ∙ ap (λ (f : ℕ). get_or row f (pos 0)) c.before.before.before.a_at.ensures.0
+  a_read : held (get_or row c.a_at-a.result (pos 0)) ≡ value_at row h.a
+  a_read = to_z-of_z w64 _ (sfits_of c.v-1.given) ∙ ap (λ (f : ℕ). get_or row f (pos 0)) c.a_at-a.ensures.0
 
-  b-read : held (get_or row c.before.before.b_at.result (pos 0)) ≡ value_at row h.b
-  b-read = to_z-of_z w64 _ (sfits_of c.t132.given) ∙ ap (λ (f : ℕ). get_or row f (pos 0)) c.before.before.b_at.ensures.0
+  b-read : held (get_or row c.b_at-b.result (pos 0)) ≡ value_at row h.b
+  b-read = to_z-of_z w64 _ (sfits_of c.w-1.given) ∙ ap (λ (f : ℕ). get_or row f (pos 0)) c.b_at-b.ensures.0
 
   -- the members, as the part of the file that holds them
-  run-read : {rs : List Record} → rs ≡ take (s.args.end - (s.args.head + 1)) (drop (s.args.head + 1) (records_of s.args.file.now)) → rs ≡ ms
-  run-read e = e ∙ rw (add-one s.args.head)
+  run-read : {rs : List Record} → rs ≡ take (c.args.end - (c.args.head + 1)) (drop (c.args.head + 1) (records_of c.args.file.now)) → rs ≡ ms
+  run-read e = e ∙ rw (add-one c.args.head)
 
   mask-read : {x : ℤ} → x ≡ h.p → mask_in (kind_of code) x ≡ true
-  mask-read e = ap₂ mask_in kind-read e ∙ s.pre.0.mask
+  mask-read e = ap₂ mask_in kind-read e ∙ c.requires.0.mask
 
   -- a test of one value
   one-read : {x y : ℤ} {rs : List Record} → x ≡ h.p → y ≡ h.q → rs ≡ ms → of_two (kind_of code) ≡ false
-      → passes (test_in (kind_of code) x y rs) (held (get_or row c.before.before.before.a_at.result (pos 0))) ≡ checked row h ms h.kind
+      → passes (test_in (kind_of code) x y rs) (held (get_or row c.a_at-a.result (pos 0))) ≡ checked row h ms h.kind
   one-read d e f g = rw (d, e, f, a_read) (of_one row h ms (kind_of code) g ∙ ap (checked row h ms) kind-read)
 
 abbrev two_at : ℕ → Bool

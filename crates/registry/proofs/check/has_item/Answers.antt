@@ -9,22 +9,20 @@ use Rattle.lists.proofs.Tests.{yes_eq}
 use Rattle.spec.specs.Code.{ps_of}
 use Rattle.spec.specs.Record.{Record, records_of}
 use Rattle.registry.specs.Index.{Indexed, IndexedAt}
-use Rattle.registry.proofs.check.has_item.Goals.{Then-is_indexed}
+use Rattle.registry.proofs.check.has_item.Goals.{After-part-run, Then-is_indexed}
 use Rattle.registry.proofs.check.has_item.Goals as goal
 
 -- the members, as the part of the file that holds them
-module _ (c : tie.After-part) where
-  abbrev s : tie.Start
-  s = c.before.before.before
+module _ (c : After-part-run) where
 
-  run-read : records_of c.part.result.now ≡ take (s.args.end - suc s.args.head) (drop (suc s.args.head) (records_of s.args.file.now))
-  run-read = c.part.ensures.1 ∙ rw (add-one s.args.head)
+  run-read : records_of c.part-run.result.now ≡ take (c.args.end - suc c.args.head) (drop (suc c.args.head) (records_of c.args.file.now))
+  run-read = c.part-run.ensures.records ∙ rw (add-one c.args.head)
 
 -- the index where the head is marked
-at_head : (c : Then-is_indexed) → IndexedAt (s (record { before = c.before.before.before; type_inv = record { index = c.before.before.before.shared_slice_known-2-1.given; file = c.before.before.before.shared_slice_known-1.given } })).args.file.now (s (record { before = c.before.before.before; type_inv = record { index = c.before.before.before.shared_slice_known-2-1.given; file = c.before.before.before.shared_slice_known-1.given } })).args.index.now (s (record { before = c.before.before.before; type_inv = record { index = c.before.before.before.shared_slice_known-2-1.given; file = c.before.before.before.shared_slice_known-1.given } })).args.head (s (record { before = c.before.before.before; type_inv = record { index = c.before.before.before.shared_slice_known-2-1.given; file = c.before.before.before.shared_slice_known-1.given } })).args.end
+at_head : (c : Then-is_indexed) → IndexedAt (s (record { before = c.before.before.before; type_inv = record { index = c.shared_slice_known-2-1.given; file = c.shared_slice_known-1.given } })).args.file.now (s (record { before = c.before.before.before; type_inv = record { index = c.shared_slice_known-2-1.given; file = c.shared_slice_known-1.given } })).args.index.now (s (record { before = c.before.before.before; type_inv = record { index = c.shared_slice_known-2-1.given; file = c.shared_slice_known-1.given } })).args.head (s (record { before = c.before.before.before; type_inv = record { index = c.shared_slice_known-2-1.given; file = c.shared_slice_known-1.given } })).args.end
 at_head c =
-    let u = s (record { before = c.before.before.before; type_inv = record { index = c.before.before.before.shared_slice_known-2-1.given; file = c.before.before.before.shared_slice_known-1.given } }) in
-    u.pre.3 u.args.head u.args.end (yes_eq _ _ (sym c.is_indexed.ensures ∙ c.if-is_indexed.true))
+    let u = s (record { before = c.before.before.before; type_inv = record { index = c.shared_slice_known-2-1.given; file = c.shared_slice_known-1.given } }) in
+    u.requires.3 u.args.head u.args.end (yes_eq _ _ (sym c.is_indexed.ensures ∙ c.if-is_indexed.true))
 
 pub slice_bounds-finds_p-end : goal.slice_bounds-finds_p-end
 slice_bounds-finds_p-end c = (at_head (goal.at.slice_bounds-finds_p-end c).Then-is_indexed).long
@@ -32,14 +30,14 @@ slice_bounds-finds_p-end c = (at_head (goal.at.slice_bounds-finds_p-end c).Then-
 pub finds_p-requires : goal.finds_p-requires
 finds_p-requires c =
     let t = (goal.at.finds_p-requires c).After-part-run in
-    subst (λ (k : ℕ). Indexed t.part-run.result.now (take ((s t).args.end - k) (drop k (s t).args.index.now))) (sym (add-one (s t).args.head)) ((at_head (goal.at.finds_p-requires c).Then-is_indexed).indexed _ (run-read t))
+    subst (λ (k : ℕ). Indexed t.part-run.result.now (take (t.args.end - k) (drop k t.args.index.now))) (sym (add-one t.args.head)) ((at_head (goal.at.finds_p-requires c).Then-is_indexed).indexed _ (run-read t))
 
 pub returns-then-is_indexed : goal.returns-then-is_indexed
 returns-then-is_indexed c =
     let t = (goal.at.returns-then-is_indexed c).After-part-run in
-    c.finds_p.ensures ∙ ap (λ (rs : List Record). elem_z (s t).args.v.0 (ps_of rs)) (run-read t)
+    c.finds_p.ensures ∙ ap (λ (rs : List Record). elem_z t.args.v.0 (ps_of rs)) (run-read t)
 
 pub returns : goal.returns
 returns c =
     let t = (goal.at.returns c).After-part-run in
-    c.has_p.ensures ∙ ap (λ (rs : List Record). elem_z (s t).args.v.0 (ps_of rs)) (run-read t)
+    c.has_p.ensures ∙ ap (λ (rs : List Record). elem_z t.args.v.0 (ps_of rs)) (run-read t)

@@ -23,27 +23,27 @@ use Rattle.registry.proofs.project.decompose.Goals.{After-at_offset-start, After
 use Rattle.registry.proofs.project.decompose.Goals as goal
 
 -- the value, the base, the offset and the axes
-module _ (c : tie.After-struct-told) where
+module _ (c : After-struct_told-1) where
   abbrev value : ℤ
-  value = c.before.before.args.v.0
+  value = c.args.v.0
 
   abbrev base : ℤ
-  base = c.before.before.args.base
+  base = c.args.base
 
   abbrev offset : Option ℕ
-  offset = offset_by c.before.before.args.offset
+  offset = offset_by c.args.offset
 
   abbrev axes : List AxisSpec
-  axes = map axis_of (records_of c.before.before.args.axes.now)
+  axes = map axis_of (records_of c.args.axes.now)
 
   value_read : held value ≡ value
-  value_read = to_z-of_z w64 value (sfits_of c.struct_told.given.0.1)
+  value_read = to_z-of_z w64 value (sfits_of c.struct_told-1.given.0.1)
 
   base_read : held base ≡ base
-  base_read = to_z-of_z w64 base c.before.before.ranges.base
+  base_read = to_z-of_z w64 base c.ranges.base
 
   apart-fit : SFits w64 (value -ℤ base)
-  apart-fit = apart_fits value base c.before.before.requires.0 c.before.before.requires.1
+  apart-fit = apart_fits value base c.requires.0 c.requires.1
 
   abbrev above : ℕ
   above = nat_abs (value -ℤ base)
@@ -60,8 +60,8 @@ returns-then-x-base c =
     sym (packed-below (offset t) (axes t) (value t) (base t) (rw (value_read t, base_read t) at c.if-x-base.true))
 
 -- how far it is above the base
-natural : (c : Else-x-base) → value (record { before = c.before.before; type_inv = record { axes = c.before.before.shared_slice_known-1.given } }) -ℤ base (record { before = c.before.before; type_inv = record { axes = c.before.before.shared_slice_known-1.given } }) ≡ pos (above (record { before = c.before.before; type_inv = record { axes = c.before.before.shared_slice_known-1.given } }))
-natural c = let t : After-struct_told-1 = record { before = c.before.before; type_inv = record { axes = c.before.before.shared_slice_known-1.given } } in natural_apart (value t) (base t) (nlt_le (value t) (base t) (rw (value_read t, base_read t) at c.if-x-base.false))
+natural : (c : Else-x-base) → value (record { before = c.before.before; type_inv = record { axes = c.shared_slice_known-1.given } }) -ℤ base (record { before = c.before.before; type_inv = record { axes = c.shared_slice_known-1.given } }) ≡ pos (above (record { before = c.before.before; type_inv = record { axes = c.shared_slice_known-1.given } }))
+natural c = let t : After-struct_told-1 = record { before = c.before.before; type_inv = record { axes = c.shared_slice_known-1.given } } in natural_apart (value t) (base t) (nlt_le (value t) (base t) (rw (value_read t, base_read t) at c.if-x-base.false))
 
 pub overflow_sub-u : goal.overflow_sub-u
 overflow_sub-u c = let t = (goal.at.overflow_sub-u c).After-struct_told-1 in rw (value_read t, base_read t) (apart-fit t)
@@ -72,9 +72,9 @@ overflow_cast-u c =
     rw (value_read t, base_read t) (rw (to_z-of_z w64 (value t -ℤ base t) (apart-fit t)) (natural_fits (value t -ℤ base t) (ap negative (natural (goal.at.overflow_cast-u c).Else-x-base)) (apart-fit t)))
 
 -- the word to start with
-started : (c : After-at_offset-start) → c.at_offset-start.result ≡ word_of (at_offset (offset (record { before = c.before.before.before; type_inv = record { axes = c.before.before.before.shared_slice_known-1.given } })) (above (record { before = c.before.before.before; type_inv = record { axes = c.before.before.before.shared_slice_known-1.given } })))
+started : (c : After-at_offset-start) → c.at_offset-start.result ≡ word_of (at_offset (offset (record { before = c.before.before.before; type_inv = record { axes = c.shared_slice_known-1.given } })) (above (record { before = c.before.before.before; type_inv = record { axes = c.shared_slice_known-1.given } })))
 started c =
-    let t : After-struct_told-1 = record { before = c.before.before.before; type_inv = record { axes = c.before.before.before.shared_slice_known-1.given } } in
+    let t : After-struct_told-1 = record { before = c.before.before.before; type_inv = record { axes = c.shared_slice_known-1.given } } in
     c.at_offset-start.ensures ∙ ap₂ (λ (q : ℤ) (v : ℕ). word_of (at_offset (offset_by q) v)) (to_z-of_z w64 t.args.offset t.ranges.offset) (above-read t)
 
 pub returns-then-not-start : goal.returns-then-not-start
@@ -85,11 +85,11 @@ returns-then-not-start c =
     sym (ap (packed (offset t) (axes t)) (natural (goal.at.returns-then-not-start c).Else-x-base) ∙ ap fitting (plus-digits start (axes t) (above t)) ∙ over_top start (axes t) (above t) (fits_no start (rw (started a) at c.if-not-start.true)))
 
 -- the start, which fits
-fitted : (c : Else-not-start) → (at_offset (offset (record { before = c.before.before.before.before.before; type_inv = record { axes = c.before.before.before.before.before.shared_slice_known-1.given } })) (above (record { before = c.before.before.before.before.before; type_inv = record { axes = c.before.before.before.before.before.shared_slice_known-1.given } })) < 2 ^ 63)
-    × (c.at_offset-start.result.word ≡ at_offset (offset (record { before = c.before.before.before.before.before; type_inv = record { axes = c.before.before.before.before.before.shared_slice_known-1.given } })) (above (record { before = c.before.before.before.before.before; type_inv = record { axes = c.before.before.before.before.before.shared_slice_known-1.given } })))
+fitted : (c : Else-not-start) → (at_offset (offset (record { before = c.before.before.before.before.before; type_inv = record { axes = c.shared_slice_known-1.given } })) (above (record { before = c.before.before.before.before.before; type_inv = record { axes = c.shared_slice_known-1.given } })) < 2 ^ 63)
+    × (c.at_offset-start.result.word ≡ at_offset (offset (record { before = c.before.before.before.before.before; type_inv = record { axes = c.shared_slice_known-1.given } })) (above (record { before = c.before.before.before.before.before; type_inv = record { axes = c.shared_slice_known-1.given } })))
 fitted c =
-    let a : After-at_offset-start = record { before = c.before.before.before; type_inv = record { axes = c.before.before.before.shared_slice_known-1.given } } in
-    let t : After-struct_told-1 = record { before = a.before.before.before; type_inv = record { axes = a.before.before.before.shared_slice_known-1.given } } in
+    let a : After-at_offset-start = record { before = c.before.before.before; type_inv = record { axes = c.shared_slice_known-1.given } } in
+    let t : After-struct_told-1 = record { before = a.before.before.before; type_inv = record { axes = a.shared_slice_known-1.given } } in
     let fits = fits_yes (at_offset (offset t) (above t)) (rw (started a) at c.if-not-start.false) in
     (fits.0, ap (λ (w : code.Word). w.word) (started a) ∙ fits.1)
 

@@ -24,52 +24,51 @@ use Rattle.spec.proofs.Fields.{kind_of_lem, length_records}
 use Rattle.registry.specs.Check.{value_at}
 use Rattle.registry.specs.Code.{AxisIn, project_in}
 use Rattle.registry.specs.Project.{packed}
+use Rattle.registry.proofs.project.project.Goals.{After-v-1}
 use Rattle.registry.proofs.project.project.Goals as goal
 
 -- the head, its members and the row
-module _ (c : tie.After-t11) where
-  abbrev s : tie.Start
-  s = c.before.before.before.before
+module _ (c : After-v-1) where
 
   abbrev h : Record
-  h = record_at s.args.file.now s.args.head
+  h = record_at c.args.file.now c.args.head
 
   abbrev records : List Record
-  records = records_of s.args.file.now
+  records = records_of c.args.file.now
 
   abbrev after : ℕ
-  after = suc s.args.head
+  after = suc c.args.head
 
   abbrev ms : List Record
-  ms = take (length s.args.file.now / 32 - after) (drop after records)
+  ms = take (length c.args.file.now / 32 - after) (drop after records)
 
   abbrev row : List ℤ
-  row = s.args.row.now
+  row = c.args.row.now
 
   abbrev code : ℕ
-  code = c.before.before.code_at.result
+  code = c.code_at-code.result
 
   kind-read : kind_of code ≡ h.kind
-  kind-read = ap kind_of c.before.before.code_at.ensures ∙ sym (kind_of_lem s.args.file.now s.args.head)
+  kind-read = ap kind_of c.code_at-code.ensures ∙ sym (kind_of_lem c.args.file.now c.args.head)
 
   abbrev value : ℤ
-  value = get_or row c.before.a_at.result (pos 0)
+  value = get_or row c.a_at-a.result (pos 0)
 
   value_read : held value ≡ value
-  value_read = to_z-of_z w64 value (sfits_of c.t11.given)
+  value_read = to_z-of_z w64 value (sfits_of c.v-1.given)
 
   value-is : value ≡ value_at row h.a
-  value-is = ap (λ (f : ℕ). get_or row f (pos 0)) c.before.a_at.ensures.0
+  value-is = ap (λ (f : ℕ). get_or row f (pos 0)) c.a_at-a.ensures.0
 
   -- the members, as the part of the file that holds them: all that follow
-  run-read : {rs : List Record} → rs ≡ take (length s.args.file.now / 32 - (s.args.head + 1)) (drop (s.args.head + 1) records) → rs ≡ ms
-  run-read e = e ∙ rw (add-one s.args.head)
+  run-read : {rs : List Record} → rs ≡ take (length c.args.file.now / 32 - (c.args.head + 1)) (drop (c.args.head + 1) records) → rs ≡ ms
+  run-read e = e ∙ rw (add-one c.args.head)
 
   run-whole : ms ≡ drop after records
-  run-whole = let file = s.args.file.now in take_all (length file / 32 - after) (drop after records) (omega (arith, length-drop after records, length_records file))
+  run-whole = let file = c.args.file.now in take_all (length file / 32 - after) (drop after records) (omega (arith, length-drop after records, length_records file))
 
   value_scaled : on_scale (held value) ≡ true
-  value_scaled = rw (value_read, value-is) (All_at (pos 0) row s.pre.0.scaled h.a s.pre.1.a_below)
+  value_scaled = rw (value_read, value-is) (All_at (pos 0) row c.requires.0.scaled h.a c.requires.1.a_below)
 
   abbrev projected : Kind → Option ℤ
   projected k = project_in k h ms row

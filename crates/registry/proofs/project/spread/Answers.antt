@@ -18,7 +18,7 @@ use Rattle.registry.specs.Project.{fitting}
 use Rattle.registry.proofs.Digits.{axis_at, fits_no, fits_yes, from_end, from_full, from_turn, over_top, packed_from}
 use Rattle.registry.proofs.Packing.{plus-digits}
 use Rattle.registry.proofs.Scale.{natural_fits}
-use Rattle.registry.proofs.project.spread.Goals.{Joined-radix-eq0}
+use Rattle.registry.proofs.project.spread.Goals.{After-add_raised-next, After-p_at-radix, Joined-radix-eq0}
 use Rattle.registry.proofs.project.spread.Goals as goal
 
 pub loop-i-init : goal.loop-i-init
@@ -28,33 +28,33 @@ pub p_at-radix-requires : goal.p_at-radix-requires
 p_at-radix-requires c = omega arith
 
 -- the axis of a turn
-module _ (c : tie.After-p-at invariant-loop-i decreases-loop-i) where
+module _ (c : After-p_at-radix) where
   abbrev axes : List ℕ
-  axes = c.before.before.before.before.args.axes.now
+  axes = c.args.axes.now
 
   abbrev i : ℕ
-  i = c.before.before.loop.i
+  i = c.loop-i.i
 
   abbrev word : ℕ
-  word = c.before.before.loop.word
+  word = c.loop-i.word
 
   abbrev rest : ℕ
-  rest = c.before.before.loop.rest
+  rest = c.loop-i.rest
 
   abbrev m : Record
   m = record_at axes i
 
   inside : i < length axes / 32
-  inside = c.before.loop-test.true
+  inside = c.loop-i-test.true
 
   axis : AxisIn m
-  axis = axis_at axes c.before.before.before.before.requires.1 i inside
+  axis = axis_at axes c.requires.1 i inside
 
   abbrev radix : ℕ
-  radix = nat_abs (held c.p-at.result)
+  radix = nat_abs (held c.p_at-radix.result)
 
-  p-read : held c.p-at.result ≡ m.p
-  p-read = to_z-of_z w64 c.p-at.result (sfits_of c.p-at.type_inv) ∙ c.p-at.ensures
+  p-read : held c.p_at-radix.result ≡ m.p
+  p-read = to_z-of_z w64 c.p_at-radix.result (sfits_of c.p_at-radix.type_inv) ∙ c.p_at-radix.ensures
 
   radix-read : radix ≡ nat_abs m.p
   radix-read = ap nat_abs p-read
@@ -84,32 +84,30 @@ add_raised-next-requires c =
     (rw c.b_at.ensures.0 (axis t).shift, t.loop-i.invariant.1)
 
 -- the axis has room for what is left, if it has no radix
-room : (c : Joined-radix-eq0) → nat_abs (m (record { before = c.before.before; type_inv = record { axes = c.before.before.shared_slice_known-1.given } })).p ≡ 0 → rest (record { before = c.before.before; type_inv = record { axes = c.before.before.shared_slice_known-1.given } }) < 2 ^ (m (record { before = c.before.before; type_inv = record { axes = c.before.before.shared_slice_known-1.given } })).a
+room : (c : Joined-radix-eq0) → nat_abs (m (record { before = c.before.before; type_inv = record { axes = c.shared_slice_known-1.given } })).p ≡ 0 → rest (record { before = c.before.before; type_inv = record { axes = c.shared_slice_known-1.given } }) < 2 ^ (m (record { before = c.before.before; type_inv = record { axes = c.shared_slice_known-1.given } })).a
 room c =
     ⊎_elim
     (λ w e. rw (w.2.ensures, w.1.ensures.0) at w.3.false)
-    (λ w e. absurd (w.left (radix-read (record { before = c.before.before; type_inv = record { axes = c.before.before.shared_slice_known-1.given } }) ∙ e)))
+    (λ w e. absurd (w.left (radix-read (record { before = c.before.before; type_inv = record { axes = c.shared_slice_known-1.given } }) ∙ e)))
     c.if-radix-eq0.branch
 
 -- the word with this axis' digit
-module _ (c : tie.After-add-raised invariant-loop-i decreases-loop-i) where
-  abbrev t : tie.After-p-at invariant-loop-i decreases-loop-i
-  t = c.before.before.before.before
+module _ (c : After-add_raised-next) where
 
   abbrev next : ℕ
   next = word t + digit_of (nat_abs (m t).p) (rest t) * 2 ^ (m t).b
 
-  added : c.add-raised.result ≡ word_of next
-  added = c.add-raised.ensures ∙ ap₂ (λ (d k : ℕ). word_of (word t + d * 2 ^ k)) (c.before.before.digit.ensures ∙ ap (λ (r : ℕ). digit_of r (rest t)) (radix-read t)) c.before.b_at.ensures.0
+  added : c.add_raised-next.result ≡ word_of next
+  added = c.add_raised-next.ensures ∙ ap₂ (λ (d k : ℕ). word_of (word t + d * 2 ^ k)) (c.digit.ensures ∙ ap (λ (r : ℕ). digit_of r (rest t)) (radix-read t)) c.b_at.ensures.0
 
   turned : packed_from (axes t) next (rest_of (nat_abs (m t).p) (rest t)) (i t + 1) ≡ packed_from (axes t) (word t) (rest t) (i t)
-  turned = sym (from_turn (axes t) (word t) (rest t) (i t) (inside t) (room c.before.before.before))
+  turned = sym (from_turn (axes t) (word t) (rest t) (i t) (inside t) (room (record { before = c.before.before.before.before; type_inv = record { axes = c.shared_slice_known-1.given } })))
 
 pub returns-then-not-next : goal.returns-then-not-next
 returns-then-not-next c =
     let a = (goal.at.returns-then-not-next c).After-add_raised-next in
     let x = t a in
-    sym (over_top (next a) (map axis_of (drop (i x + 1) (records_of (axes x)))) (rest_of (nat_abs (m x).p) (rest x)) (fits_no (next a) (rw (added a) at c.if-not-next.true))) ∙ turned a ∙ x.before.before.loop.inv.2
+    sym (over_top (next a) (map axis_of (drop (i x + 1) (records_of (axes x)))) (rest_of (nat_abs (m x).p) (rest x)) (fits_no (next a) (rw (added a) at c.if-not-next.true))) ∙ turned a ∙ x.loop.inv.2
 
 pub overflow_add-i : goal.overflow_add-i
 overflow_add-i c = omega arith
@@ -124,7 +122,7 @@ loop-i-preserved c =
     let fits = fits_yes (next a) (rw (added a) at c.if-not-next.false) in
     let sum = ap (λ (w : code.Word). w.word) (added a) ∙ fits.1 in
     let left = c.quotient-rest.ensures ∙ ap (λ (r : ℕ). rest_of r (rest x)) (radix-read x) in
-    (omega arith, omega (arith, sum, fits.0), ap₂ (λ (w v : ℕ). packed_from (axes x) w v (i x + 1)) sum left ∙ turned a ∙ x.before.before.loop.inv.2)
+    (omega arith, omega (arith, sum, fits.0), ap₂ (λ (w v : ℕ). packed_from (axes x) w v (i x + 1)) sum left ∙ turned a ∙ x.loop.inv.2)
 
 pub overflow_cast-result : goal.overflow_cast-result
 overflow_cast-result c = sfits_of c.loop-i.invariant.1

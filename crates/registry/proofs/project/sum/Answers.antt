@@ -13,6 +13,7 @@ use Rattle.lists.specs.Integers.{sum_z}
 use Rattle.lists.proofs.All.{All_at}
 use Rattle.spec.proofs.Multiples.{held, scale_bound}
 use Rattle.registry.proofs.Scale.{small_fits, sum_bound, sum_end, sum_more}
+use Rattle.registry.proofs.project.sum.Goals.{After-total-1}
 use Rattle.registry.proofs.project.sum.Goals as goal
 
 pub loop-f-init : goal.loop-f-init
@@ -25,26 +26,26 @@ pub bounds-row-f : goal.bounds-row-f
 bounds-row-f c = omega arith
 
 -- the value of field f, and the sum with it
-module _ (c : tie.After-total invariant-loop-f decreases-loop-f) where
+module _ (c : After-total-1) where
   abbrev row : List ℤ
-  row = c.before.before.before.args.row.now
+  row = c.args.row.now
 
   abbrev value : ℤ
-  value = get_or row c.before.before.loop.f (pos 0)
+  value = get_or row c.loop-f.f (pos 0)
 
   value_read : held value ≡ value
-  value_read = to_z-of_z w64 value (sfits_of c.total.given)
+  value_read = to_z-of_z w64 value (sfits_of c.total-1.given)
 
   abbrev next : ℤ
-  next = to_z w64 c.before.before.loop.total +ℤ held value
+  next = to_z w64 c.loop-f.total +ℤ held value
 
-  next-bound : nat_abs next ≤ (c.before.before.loop.f + 1) * 2 ^ 56
+  next-bound : nat_abs next ≤ (c.loop-f.f + 1) * 2 ^ 56
   next-bound =
-      let scaled = All_at (pos 0) row c.before.before.before.requires.scaled c.before.before.loop.f c.before.loop-test.true in
-      rw value_read (omega (arith, sum_bound (to_z w64 c.before.before.loop.total) value, scale_bound value scaled, c.before.before.loop.invariant.1))
+      let scaled = All_at (pos 0) row c.requires.scaled c.loop-f.f c.loop-f-test.true in
+      rw value_read (omega (arith, sum_bound (to_z w64 c.loop-f.total) value, scale_bound value scaled, c.loop-f.invariant.1))
 
   next_fits : SFits w64 next
-  next_fits = small_fits next (omega (arith, next-bound, c.before.before.before.requires.few))
+  next_fits = small_fits next (omega (arith, next-bound, c.requires.few))
 
 pub overflow_add-total : goal.overflow_add-total
 overflow_add-total c = next_fits (goal.at.overflow_add-total c).After-total-1

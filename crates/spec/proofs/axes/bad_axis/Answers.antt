@@ -26,7 +26,7 @@ bad_radix-requires c =
 
 -- the answer of the radix's test
 radix-is : (c : After-bad_radix) → bad_radix c.args.m.a c.args.m.p ≡ c.bad_radix.result
-radix-is c = let m = c.args.m in ap (bad_radix m.a) (sym (p-is (record { before = c.before.before; type_inv = record { m = c.before.before.struct_told-1.given; before = c.before.before.shared_slice_known-1.given } }))) ∙ sym c.bad_radix.ensures
+radix-is c = let m = c.args.m in ap (bad_radix m.a) (sym (p-is (record { before = c.before.before; type_inv = record { m = c.struct_told-1.given; before = c.shared_slice_known-1.given } }))) ∙ sym c.bad_radix.ensures
 
 pub returns-then-bad_radix : goal.returns-then-bad_radix
 returns-then-bad_radix c = rw (c.if-m.false, radix-is (goal.at.returns-then-bad_radix c).After-bad_radix, c.if-bad_radix.true)

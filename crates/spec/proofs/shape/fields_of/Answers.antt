@@ -91,7 +91,7 @@ next-is c = omega (arith, values-are c)
 turned : (c : After-times-t)
     → Gone 0 is_field field_section c.args.file.now (c.loop-code.i + (1 + length c.members.result.now / 32)) (c.loop-code.count + 1)
 turned c =
-    let f = field_is (record { before = c.before.before.before.before.before; type_inv = record { file = c.before.before.before.before.before.shared_slice_known-1.given } }) in
+    let f = field_is (record { before = c.before.before.before.before.before; type_inv = record { file = c.shared_slice_known-1.given } }) in
     gone_on 0 is_field field_section c.args.file.now c.loop-code.i c.loop-code.count c.loop-code.invariant.0 f.0 (ap section_of f.1) _ (next-is c)
 
 pub overflow_add-count : goal.overflow_add-count
