@@ -16,7 +16,7 @@ returns-in-Refused c =
     let count = c.count in
     let told = c.r-1.given in
     let put = c.put_four in
-    let is = answered (answer_words 4 count_words) (refused (record { number = told.0.0.number; at = told.0.0.record })) (count_answer (as_engine a.engine) (length a.scratch.now) a.file.now) true refl (ap as_counted (sym told.1) ∙ count.ensures.answer) put.new.0 a.words.now put.ensures in
+    let is = answered (answer_words 4 count_words) (refused (record { number = told.0.0.number; at = told.0.0.record })) (count_answer (as_engine a.engine) (length a.scratch.now) a.file.now) true refl (ap as_counted (sym told.1) ∙ count.ensures.answer) put.new.words a.words.now put.ensures in
     record { status = is.0; words = is.1; scratch = count.ensures.scratch }
 
 pub returns-in-Counted : goal.returns-in-Counted
@@ -25,5 +25,5 @@ returns-in-Counted c =
     let count = c.count in
     let told = c.c-1.given in
     let put = c.put_four-in-Counted in
-    let is = answered (answer_words 4 count_words) (accepted (as_counts told.0.0)) (count_answer (as_engine a.engine) (length a.scratch.now) a.file.now) true refl (ap as_counted (sym told.1) ∙ count.ensures.answer) put.new.0 a.words.now put.ensures in
+    let is = answered (answer_words 4 count_words) (accepted (as_counts told.0.0)) (count_answer (as_engine a.engine) (length a.scratch.now) a.file.now) true refl (ap as_counted (sym told.1) ∙ count.ensures.answer) put.new.words a.words.now put.ensures in
     record { status = is.0; words = is.1; scratch = count.ensures.scratch }

@@ -21,7 +21,7 @@ returns-in-Refused c =
     let told = c.answer-1.given in
     let put = c.put_page in
     let is = ap (λ (v : code.Answer). as_page v page.result.last) (sym told.1) ∙ page.ensures.answer in
-    let given = answered (answer_words 34 page_words) (refused (record { number = told.0.0.number; at = told.0.0.record })) (page_answer (as_engine a.engine) (length a.scratch.now) (length a.out.now) a.file.now (as_start a.start)) true refl is put.new.0 a.words.now (put.ensures ∙ ap (λ (t : List ℕ). over (told.0.0.number ∷ told.0.0.record ∷ t) a.words.now) (last_none (page_answer (as_engine a.engine) (length a.scratch.now) (length a.out.now) a.file.now (as_start a.start)) ((record { number = told.0.0.number; at = told.0.0.record })) page.result.last is page.ensures.last)) in
+    let given = answered (answer_words 34 page_words) (refused (record { number = told.0.0.number; at = told.0.0.record })) (page_answer (as_engine a.engine) (length a.scratch.now) (length a.out.now) a.file.now (as_start a.start)) true refl is put.new.words a.words.now (put.ensures ∙ ap (λ (t : List ℕ). over (told.0.0.number ∷ told.0.0.record ∷ t) a.words.now) (last_none (page_answer (as_engine a.engine) (length a.scratch.now) (length a.out.now) a.file.now (as_start a.start)) ((record { number = told.0.0.number; at = told.0.0.record })) page.result.last is page.ensures.last)) in
     let whole = (given.0, (given.1, page.ensures.1.1)) in record { status = whole.0; words = whole.1.0; out = whole.1.1.0; scratch = whole.1.1.1 }
 
 pub returns-in-Written : goal.returns-in-Written
@@ -31,5 +31,5 @@ returns-in-Written c =
     let told = c.answer-in-Written-1.given in
     let put = c.put_page-in-Written in
     let is = ap (λ (v : code.Answer). as_page v page.result.last) (sym told.1) ∙ page.ensures.answer in
-    let given = answered (answer_words 34 page_words) (accepted (record { count = told.0.0; last = page.result.last; done = told.0.1.0 })) (page_answer (as_engine a.engine) (length a.scratch.now) (length a.out.now) a.file.now (as_start a.start)) true refl is put.new.0 a.words.now (put.ensures ∙ ap (λ (k : ℕ). over (told.0.0 ∷ k ∷ page.result.last) a.words.now) (flag-number told.0.1.0)) in
+    let given = answered (answer_words 34 page_words) (accepted (record { count = told.0.0; last = page.result.last; done = told.0.1.0 })) (page_answer (as_engine a.engine) (length a.scratch.now) (length a.out.now) a.file.now (as_start a.start)) true refl is put.new.words a.words.now (put.ensures ∙ ap (λ (k : ℕ). over (told.0.0 ∷ k ∷ page.result.last) a.words.now) (flag-number told.0.1.0)) in
     let whole = (given.0, (given.1, page.ensures.1.1)) in record { status = whole.0; words = whole.1.0; out = whole.1.1.0; scratch = whole.1.1.1 }

@@ -10,10 +10,10 @@ use Rattle.exports.proofs.put_page.Goals as goal
 pub bounds-words-1 : goal.bounds-words-1
 bounds-words-1 c =
     let call = c.copy_words in
-    omega (arith, c.requires, length-set (put_mid 2 32 c.args.words.now call.new.1.0) 0 c.args.a, same_len_mid 2 32 c.args.words.now call.new.1.0 call.auto.1.0)
+    omega (arith, c.requires, length-set (put_mid 2 32 c.args.words.now call.new.to) 0 c.args.a, same_len_mid 2 32 c.args.words.now call.new.to call.auto.to)
 
 pub returns : goal.returns
 returns c =
     let call = c.copy_words in
     let wide : length c.args.t4 ≡ 32 = search rules in
-    page_put c.args.words.now call.new.1.0 c.args.t4 c.args.a c.args.b c.requires call.ensures wide
+    page_put c.args.words.now call.new.to c.args.t4 c.args.a c.args.b c.requires call.ensures wide

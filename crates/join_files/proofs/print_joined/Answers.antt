@@ -10,11 +10,11 @@ use Rattle.join_files.proofs.print_joined.Goals.{In-Length}
 use Rattle.join_files.proofs.print_joined.Goals as goal
 
 -- the length is within the output
-inside : (c : In-Length) → c.in-Length.len ≤ length c.join.new.1.1.0
+inside : (c : In-Length) → c.in-Length.len ≤ length c.join.new.out
 inside c =
     let j = c.join in
     let n = answered_short _ _ _ _ (sym j.ensures.answer ∙ ap as_joined c.in-Length.is) in
-    let k = j.auto.1.1.0 in
+    let k = j.auto.out in
     omega arith
 
 pub slice_bounds-out-end : goal.slice_bounds-out-end

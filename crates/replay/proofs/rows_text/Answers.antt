@@ -17,5 +17,5 @@ clear_places-requires c = (omega arith, omega (arith, c.fields_of-width.ensures,
 pub returns-in-Written : goal.returns-in-Written
 returns-in-Written c =
     let put = c.put_verdicts in
-    let few : put.result ≤ length put.new.0 = search rules in
-    (few, sym (length-take-le put.result put.new.0 few))
+    let few : put.result ≤ length put.new.out = search rules in
+    (few, sym (length-take-le put.result put.new.out few))

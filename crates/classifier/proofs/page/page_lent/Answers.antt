@@ -37,35 +37,42 @@ prepare-number-requires c = (c.requires.0, omega (arith, c.requires.1, room_doma
 
 -- the plan that was laid
 module _ (c : After-prepare-number) where
+  abbrev p-start : Start
+  p-start = c.before.before.before.before.before.before.before.before
 
   abbrev order : List ℕ
-  order = take c.args.shape.fields c.prepare-number.new.1.1.1.1.1.1.1.1.0
+  order = take p-start.args.shape.fields c.prepare-number.new.order
 
   abbrev plan : Plan
-  plan = plan_in c.args.file.now c.prepare-number.new.1.1.1.1.1.0 c.prepare-number.new.1.1.1.1.1.1.0 c.prepare-number.new.1.1.1.1.1.1.1.0 order
+  plan = plan_in p-start.args.file.now c.prepare-number.new.scratch c.prepare-number.new.lists c.prepare-number.new.maps order
 
-  few : c.args.shape.fields ≤ length c.prepare-number.new.1.1.1.1.1.1.1.1.0
-  few = let s = p-start in order_room s.args.file.now s.args.heads.now s.args.shape.fields s.args.shape.constraints s.requires.0 c.prepare-number.new.1.1.1.1.1.1.1.1.0 c.prepare-number.auto.1.1.1.1.1.1.1.1.0
+  few : p-start.args.shape.fields ≤ length c.prepare-number.new.order
+  few = let s = p-start in order_room s.args.file.now s.args.heads.now s.args.shape.fields s.args.shape.constraints s.requires.0 c.prepare-number.new.order c.prepare-number.auto.order
 
-  long : length order ≡ c.args.shape.fields
-  long = let s = p-start in order-long s.args.file.now s.args.heads.now s.args.shape.fields s.args.shape.constraints s.requires.0 c.prepare-number.new.1.1.1.1.1.1.1.1.0 c.prepare-number.auto.1.1.1.1.1.1.1.1.0
+  long : length order ≡ p-start.args.shape.fields
+  long = let s = p-start in order-long s.args.file.now s.args.heads.now s.args.shape.fields s.args.shape.constraints s.requires.0 c.prepare-number.new.order c.prepare-number.auto.order
 
-  opened : Opened c.args.file.now c.args.heads.now (length order) c.args.shape.constraints
-  opened = let s = p-start in order-opened s.args.file.now s.args.heads.now s.args.shape.fields s.args.shape.constraints s.requires.0 c.prepare-number.new.1.1.1.1.1.1.1.1.0 c.prepare-number.auto.1.1.1.1.1.1.1.1.0
+  opened : Opened p-start.args.file.now p-start.args.heads.now (length order) p-start.args.shape.constraints
+  opened = let s = p-start in order-opened s.args.file.now s.args.heads.now s.args.shape.fields s.args.shape.constraints s.requires.0 c.prepare-number.new.order c.prepare-number.auto.order
 
 -- neither 12 nor 13
 module _ (c : Else-number-ne0) where
+  abbrev laid : After-prepare-number
+  laid = (record { before = c.before.before.before.before.before.before; type_inv = record { heads = c.shared_slice_known-2-1.given; file = c.shared_slice_known-1.given } })
 
-  sound : sound_number (as_engine c.args.engine) (decoded c.args.file.now) ≡ 0
-  sound = sym c.prepare-number.ensures.number ∙ c.if-number-ne0.false
+  abbrev e-start : Start
+  e-start = c.before.before.before.before.before.before.before.before.before.before.before.before.before
 
-  planned : Planned (as_engine c.args.engine) c.args.file.now c.prepare-number.last.1.1.1.1.1.0 c.prepare-number.last.1.1.1.1.1.1.0 c.prepare-number.last.1.1.1.1.1.1.1.0 (order laid)
-  planned = c.prepare-number.ensures.plan c.if-number-ne0.false
+  sound : sound_number (as_engine e-start.args.engine) (decoded e-start.args.file.now) ≡ 0
+  sound = sym laid.prepare.ensures.0 ∙ c.if-number-ne0.false
 
-  no_start : is_none (due (as_engine c.args.engine) (decoded c.args.file.now) (as_start c.args.start)) ≡ not (is_start (plan laid) (as_start c.args.start))
+  planned : Planned (as_engine e-start.args.engine) e-start.args.file.now laid.prepare.last.1.1.1.1.1.0 laid.prepare.last.1.1.1.1.1.1.0 laid.prepare.last.1.1.1.1.1.1.1.0 (order laid)
+  planned = laid.prepare.ensures.1.1 c.if-number-ne0.false
+
+  no_start : is_none (due (as_engine e-start.args.engine) (decoded e-start.args.file.now) (as_start e-start.args.start)) ≡ not (is_start (plan laid) (as_start e-start.args.start))
   no_start =
       let s = e-start in
-      let q = c.prepare-number in
+      let q = laid.prepare in
       none-due (as_engine s.args.engine) s.args.file.now s.args.heads.now s.args.shape.constraints q.last.1.1.1.1.1.0 q.last.1.1.1.1.1.1.0 q.last.1.1.1.1.1.1.1.0 (order laid) (opened laid) planned sound (as_start s.args.start) (start_long s)
 
 -- nor 14 nor 15
@@ -125,4 +132,4 @@ page_of-requires c =
 pub returns : goal.returns
 returns c =
     let r = c.page_of in
-    let whole = gives_page (late_fault (as_engine c.args.engine) (decoded c.args.file.now) (length c.args.out.now) (as_start c.args.start)) (page_of (decoded c.args.file.now) (length c.args.out.now) (due_tuples (as_engine c.args.engine) (decoded c.args.file.now) (as_start c.args.start)) (as_start c.args.start)) (over (page_words (as_engine c.args.engine) (decoded c.args.file.now) (length c.args.out.now) (due_tuples (as_engine c.args.engine) (decoded c.args.file.now) (as_start c.args.start))) c.args.out.now) c.args.out.now (not_late (goal.at.returns c).After-late_number-late) r.result.answer r.result.last r.new.1.1.1.1.1.1.1.1.1.1.0 r.ensures.answer r.ensures.out in record { answer = whole.0; last = whole.1.0; out = whole.1.1 }
+    let whole = gives_page (late_fault (as_engine c.args.engine) (decoded c.args.file.now) (length c.args.out.now) (as_start c.args.start)) (page_of (decoded c.args.file.now) (length c.args.out.now) (due_tuples (as_engine c.args.engine) (decoded c.args.file.now) (as_start c.args.start)) (as_start c.args.start)) (over (page_words (as_engine c.args.engine) (decoded c.args.file.now) (length c.args.out.now) (due_tuples (as_engine c.args.engine) (decoded c.args.file.now) (as_start c.args.start))) c.args.out.now) c.args.out.now (not_late (goal.at.returns c).After-late_number-late) r.result.answer r.result.last r.new.out r.ensures.answer r.ensures.out in record { answer = whole.0; last = whole.1.0; out = whole.1.1 }

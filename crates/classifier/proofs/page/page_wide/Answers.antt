@@ -29,16 +29,16 @@ slice_bounds-tables-end-2 c =
     let places = c.requires.0.planned.plan-in.places in
     let n = length c.args.order.now in
     let call = c.copy_starts in
-    let long = call.auto.1.1.1.1.0 ∙ length-take-le n (replicate {A = ℕ} 2080 0) (omega (arith, length-replicate {A = ℕ} 2080 0, places.few)) in
-    omega (arith, laid_long n 2080 call.new.1.1.1.1.0 refl long places.few)
+    let long = call.auto.to ∙ length-take-le n (replicate {A = ℕ} 2080 0) (omega (arith, length-replicate {A = ℕ} 2080 0, places.few)) in
+    omega (arith, laid_long n 2080 call.new.to refl long places.few)
 
 pub index_heads-requires : goal.index_heads-requires
 index_heads-requires c =
     let places = c.requires.0.planned.plan-in.places in
     let n = length c.args.order.now in
     let call = c.copy_starts in
-    let long = call.auto.1.1.1.1.0 ∙ length-take-le n (replicate {A = ℕ} 2080 0) (omega (arith, length-replicate {A = ℕ} 2080 0, places.few)) in
-    let r = wide_room n 2080 call.new.1.1.1.1.0 refl long places.few c.args.file.now c.args.heads.now c.args.c c.requires.0.opened (replicate {A = ℕ} 2048 0) (length-replicate {A = ℕ} 2048 0) in
+    let long = call.auto.to ∙ length-take-le n (replicate {A = ℕ} 2080 0) (omega (arith, length-replicate {A = ℕ} 2080 0, places.few)) in
+    let r = wide_room n 2080 call.new.to refl long places.few c.args.file.now c.args.heads.now c.args.c c.requires.0.opened (replicate {A = ℕ} 2048 0) (length-replicate {A = ℕ} 2048 0) in
     (constraints_low c.args.file.now c.args.heads.now n c.args.c c.requires.0.opened structural c.args.c refl, r.0, r.1, r.2, r.3)
 
 pub slice_bounds-write_page-end : goal.slice_bounds-write_page-end
@@ -46,9 +46,9 @@ slice_bounds-write_page-end c =
     let places = c.requires.0.planned.plan-in.places in
     let n = length c.args.order.now in
     let call = c.copy_starts in
-    let long = call.auto.1.1.1.1.0 ∙ length-take-le n (replicate {A = ℕ} 2080 0) (omega (arith, length-replicate {A = ℕ} 2080 0, places.few)) in
+    let long = call.auto.to ∙ length-take-le n (replicate {A = ℕ} 2080 0) (omega (arith, length-replicate {A = ℕ} 2080 0, places.few)) in
     let index = c.index_heads in
-    sym (wide-long n 2080 call.new.1.1.1.1.0 refl long places.few index.new.1.1.1.0 index.auto.1.1.1.0)
+    sym (wide-long n 2080 call.new.to refl long places.few index.new.index index.auto.index)
 
 pub write_page-requires : goal.write_page-requires
 write_page-requires c =
@@ -57,7 +57,7 @@ write_page-requires c =
     let call = c.copy_starts in
     let index = c.index_heads in
     let front = length-take-le n (replicate {A = ℕ} 2080 0) (omega (arith, length-replicate {A = ℕ} 2080 0, places.few)) in
-    let long = call.auto.1.1.1.1.0 ∙ front in
+    let long = call.auto.to ∙ front in
     let starts = call.ensures ∙ ap (λ (k : ℕ). map (start_by c.args.scratch.now c.args.lists.now c.args.starts.now (length c.args.cells.now)) (upto k)) front in
-    let tables = wide_in n 2080 call.new.1.1.1.1.0 refl long places.few index.new.1.1.1.0 index.auto.1.1.1.0 c.args.file.now c.args.scratch.now c.args.lists.now c.args.maps.now c.args.starts.now c.args.cells.now c.requires.3 starts index.ensures in
+    let tables = wide_in n 2080 call.new.to refl long places.few index.new.index index.auto.index c.args.file.now c.args.scratch.now c.args.lists.now c.args.maps.now c.args.starts.now c.args.cells.now c.requires.3 starts index.ensures in
     (c.requires.0, c.requires.1, tables, c.requires.4)

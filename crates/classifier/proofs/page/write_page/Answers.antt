@@ -62,31 +62,35 @@ module _ (c : tie.After-enables-of invariant-loop-more decreases-loop-more) wher
 
 -- the first step
 module _ (c : After-first_of-from) where
+  abbrev f-start : Start
+  f-start = c.before.before.before.before.before.before.before.before.before.before.before.before.before.before.before.before
 
-  begun : Begun (plan (f-start)) (length c.args.order.now) c.first_of-from.result.tuple
+  begun : Begun (plan (f-start)) (length f-start.args.order.now) c.first_of-from.result.tuple
   begun =
       let s = f-start in
       subst (λ (r : Stepped). Begun (plan s) (length s.args.order.now) r.tuple) (sym c.first_of-from.ensures) (going_begun (as_engine s.args.engine) s.args.file.now s.args.heads.now s.args.c s.args.checks.now s.args.due.now s.args.scratch.now s.args.lists.now s.args.maps.now s.args.order.now s.requires.0 (as_start s.args.start) (start_long s) s.requires.3)
 
-  front_long : length (take (length c.args.order.now) c.first_of-from.result.tuple) ≡ length c.args.order.now
+  front_long : length (take (length f-start.args.order.now) c.first_of-from.result.tuple) ≡ length f-start.args.order.now
   front_long = let s = f-start in length-take-le (length s.args.order.now) c.first_of-from.result.tuple (omega (arith, begun.long, s.requires.0.planned.plan-in.places.few))
 
 -- the loop
 module _ (c : At-loop-more) where
+  abbrev l-start : Start
+  l-start = c.before.before.before.before.before.before.before.before.before.before.before.before.before.before.before.before.before.before.before.before.before.before.before
 
-  wide-out : length c.loop-more.out ≡ length c.args.out.now
+  wide-out : length c.loop-more.out ≡ length l-start.args.out.now
   wide-out = writing_wide _ _ _ _ _ c.loop-more.at c.loop-more.count c.loop-more.last c.loop-more.out c.loop-more.invariant.0
 
   inside : c.loop-more.at ≤ length c.loop-more.out
   inside = omega (arith, c.loop-more.invariant.0.within, wide-out)
 
   -- what is due, and the words, are those of the definition
-  due-is : due_tuples (as_engine c.args.engine) (decoded c.args.file.now) (as_start c.args.start) ≡ due_in (plan (l-start)) (length c.args.order.now) c.first_of-from.result.more c.first_of-from.result.tuple
+  due-is : due_tuples (as_engine l-start.args.engine) (decoded l-start.args.file.now) (as_start l-start.args.start) ≡ due_in (plan (l-start)) (length l-start.args.order.now) c.first_of-from.result.more c.first_of-from.result.tuple
   due-is =
       let s = l-start in
       going_due (as_engine s.args.engine) s.args.file.now s.args.heads.now s.args.c s.args.checks.now s.args.due.now s.args.scratch.now s.args.lists.now s.args.maps.now s.args.order.now s.requires.0 (as_start s.args.start) (start_long s) s.requires.3 ∙ ap (λ (r : Stepped). due_in (plan s) (length s.args.order.now) r.more r.tuple) (sym c.first_of-from.ensures)
 
-  writing : Writing (λ t. words (verdict_of (as_engine c.args.engine) (decoded c.args.file.now) t)) (length c.args.order.now + 4) c.args.out.now (due_tuples (as_engine c.args.engine) (decoded c.args.file.now) (as_start c.args.start)) (start_tuple (as_start c.args.start)) c.loop-more.at c.loop-more.count c.loop-more.last c.loop-more.out
+  writing : Writing (λ t. words (verdict_of (as_engine l-start.args.engine) (decoded l-start.args.file.now) t)) (length l-start.args.order.now + 4) l-start.args.out.now (due_tuples (as_engine l-start.args.engine) (decoded l-start.args.file.now) (as_start l-start.args.start)) (start_tuple (as_start l-start.args.start)) c.loop-more.at c.loop-more.count c.loop-more.last c.loop-more.out
   writing =
       let s = l-start in
       let l = c.loop-more in
@@ -95,7 +99,7 @@ module _ (c : At-loop-more) where
       (subst (λ (ts : List (List ℕ)). Writing (words_in s.args.file.now s.args.heads.now (length s.args.order.now) s.args.c (plan s).lists (numbers e)) (length s.args.order.now + 4) s.args.out.now ts (start_tuple (as_start s.args.start)) l.at l.count l.last l.out) (sym due-is)
       (subst (λ (t : List ℕ). Writing (words_in s.args.file.now s.args.heads.now (length s.args.order.now) s.args.c (plan s).lists (numbers e)) (length s.args.order.now + 4) s.args.out.now (due_in (plan s) (length s.args.order.now) c.first_of-from.result.more c.first_of-from.result.tuple) t l.at l.count l.last l.out) c.start_tuple-last.ensures l.invariant.0))
 
-  wide-words : length c.args.order.now + 4 ≡ words_of (length (decoded c.args.file.now).fields)
+  wide-words : length l-start.args.order.now + 4 ≡ words_of (length (decoded l-start.args.file.now).fields)
   wide-words = let s = l-start in ap words_of (walking_wide (as_engine s.args.engine) s.args.file.now s.args.heads.now s.args.c s.args.checks.now s.args.due.now s.args.scratch.now s.args.lists.now s.args.maps.now s.args.order.now s.requires.0)
 
 -- a turn: there is a tuple
@@ -174,7 +178,7 @@ loop-more-init c =
     let s = (goal.at.loop-more-init c).Start in
     let t = (goal.at.loop-more-init c).After-first_of-from in
     let r = c.pick_row in
-    let row = r.new.1.1.1.0 in
+    let row = r.new.row in
     let rest = drop (length s.args.order.now) (replicate 32 (pos 0)) in
     let u = take (length s.args.order.now) t.first_of-from.result.tuple in (
       writing_none _ _ _ _ _,
@@ -298,12 +302,12 @@ loop-more-preserved c =
     let v = c.write_verdict in
     let d = c.step-more in
     let i = room (goal.at.loop-more-preserved c).In-loop-more in
-    let part = v.new.1.1.1.1.1.1.1.1.1.0 in
+    let part = v.new.out in
     let new : part ≡ words_in s.args.file.now s.args.heads.now (length s.args.order.now) s.args.c (plan s).lists (numbers e) (take (length s.args.order.now) l.tuple)
     = v.ensures ∙ ap₂ (λ (r : List ℕ) (row : List ℤ). words (evaluate (decoded s.args.file.now) (forced_row s.args.file.now r (numbers e) row))) (rules_part s.args.heads.now (length s.args.order.now) s.args.c) l.invariant.1.stands.row_is in
     let st = writing_turn _ _ _ _ _ l.at l.count l.last l.out l.invariant.0 (take (length s.args.order.now) l.tuple) _ part (next (goal.at.loop-more-preserved c).At-loop-more) new (words_long (as_engine s.args.engine) s.args.file.now s.args.heads.now s.args.c s.args.checks.now s.args.due.now s.args.scratch.now s.args.lists.now s.args.maps.now s.args.order.now s.requires.0 (numbers e) (chosen e) (kinds e) l.tuple (take (length s.args.order.now) l.raw) l.invariant.1.begun l.invariant.1.stands) (omega arith) i in (
       subst (λ (t : List ℕ). Writing (words_in s.args.file.now s.args.heads.now (length s.args.order.now) s.args.c (plan s).lists (numbers e)) (length s.args.order.now + 4) s.args.out.now (due_in (plan s) (length s.args.order.now) c.first_of.result.more c.first_of.result.tuple) c.start-tuple.result (l.at + (length s.args.order.now + 4)) (l.count + 1) t (put_mid l.at (l.at + (length s.args.order.now + 4) - l.at) l.out part)) (sym (going_padded (as_engine s.args.engine) s.args.file.now s.args.heads.now s.args.c s.args.checks.now s.args.due.now s.args.scratch.now s.args.lists.now s.args.maps.now s.args.order.now s.requires.0 l.tuple l.invariant.1.begun)) st,
-      going_turn (as_engine s.args.engine) s.args.file.now s.args.heads.now s.args.c s.args.checks.now s.args.due.now s.args.scratch.now s.args.lists.now s.args.maps.now s.args.order.now s.requires.0 _ l.count l.tuple l.raw (going (goal.at.loop-more-preserved c).At-loop-more) d.result d.new.1.1.1.1.1.1.1.0 d.new.1.1.1.1.1.1.1.1.0 d.ensures.more d.ensures.tuple d.ensures.row,
+      going_turn (as_engine s.args.engine) s.args.file.now s.args.heads.now s.args.c s.args.checks.now s.args.due.now s.args.scratch.now s.args.lists.now s.args.maps.now s.args.order.now s.requires.0 _ l.count l.tuple l.raw (going (goal.at.loop-more-preserved c).At-loop-more) d.result d.new.t d.new.raw d.ensures.more d.ensures.tuple d.ensures.row,
     )
 
 pub written-requires-2 : goal.written-requires-2

@@ -54,14 +54,14 @@ shape_of-out c =
     let y = c.judge in
     let laid = put_mid 4 (length c.args.out.now - 4) c.args.out.now y.new.1.1.1.1.1.1.1.1.0 in
     let ok = to_z w64 c.if-place-eq0.out in
-    c.put_projection.auto.0 ∙ length-set (set laid 0 ok) 1 (to_z w64 y.result) ∙ length-set laid 0 ok ∙ laid_long c.args.file.now c.args.fields.now c.args.rules.now c.args.enables.now c.args.checks.now c.args.due.now c.args.raw.now c.requires.0 c.args.out.now c.requires.4 y.new.1.1.1.1.1.1.1.1.0 y.ensures.0
+    c.put_projection.auto.out ∙ length-set (set laid 0 ok) 1 (to_z w64 y.result) ∙ length-set laid 0 ok ∙ laid_long c.args.file.now c.args.fields.now c.args.rules.now c.args.enables.now c.args.checks.now c.args.due.now c.args.raw.now c.requires.0 c.args.out.now c.requires.4 y.new.1.1.1.1.1.1.1.1.0 y.ensures.0
 
 pub returns : goal.returns
 returns c =
     let y = c.judge in
     let row = y.new.1.1.1.1.1.1.1.1.0 in
     let p = c.projection-p in
-    laid_words c.args.file.now c.args.fields.now c.args.rules.now c.args.enables.now c.args.checks.now c.args.due.now c.args.raw.now c.requires.0 c.args.out.now c.requires.4 row y.ensures.0 c.args.projector y.result (as_projection p.result) c.put_projection.new.0 (to_z w64 c.if-place-eq0.out) (to_z w64 y.result) c.requires.3 y.ensures.1
+    laid_words c.args.file.now c.args.fields.now c.args.rules.now c.args.enables.now c.args.checks.now c.args.due.now c.args.raw.now c.requires.0 c.args.out.now c.requires.4 row y.ensures.0 c.args.projector y.result (as_projection p.result) c.put_projection.new.out (to_z w64 c.if-place-eq0.out) (to_z w64 y.result) c.requires.3 y.ensures.1
     (p.ensures ∙ ap (λ (r : List ℤ). if_passed y.result (project_of (group_in c.args.file.now c.args.projector (length c.args.file.now / 32)) r)) (laid_part c.args.file.now c.args.fields.now c.args.rules.now c.args.enables.now c.args.checks.now c.args.due.now c.args.raw.now c.requires.0 c.args.out.now c.requires.4 row y.ensures.0))
     (⊎_elim (λ u. ap (to_z w64) u.1 ∙ flag_yes y.result u.0.true) (λ u. ap (to_z w64) u.1 ∙ flag_no y.result u.0.left) c.if-place-eq0.branch)
     (to_z_pos w64 y.result (small (goal.at.returns c).Joined-place-eq0)) c.put_projection.ensures

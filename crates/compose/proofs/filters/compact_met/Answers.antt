@@ -26,7 +26,7 @@ returns-then-code-eq10 c =
     let h = c.args.h in
     let f = c.compact in
     let g = c.struct_told-then-code-eq10-1.given in
-    let whole = subst (Met c.args.list.now c.args.run.now h.p h.q f.new.0 f.result) (sym c.if-code-eq10.true) (rw (to_z-of_z w64 h.p (sfits_of g.1.1.1.1.0.1), to_z-of_z w64 h.q (sfits_of g.1.1.1.1.1.0.1)) at f.ensures) in record { count = whole.0; left = whole.1 }
+    let whole = subst (Met c.args.list.now c.args.run.now h.p h.q f.new.list f.result) (sym c.if-code-eq10.true) (rw (to_z-of_z w64 h.p (sfits_of g.1.1.1.1.0.1), to_z-of_z w64 h.q (sfits_of g.1.1.1.1.1.0.1)) at f.ensures) in record { count = whole.0; left = whole.1 }
 
 pub compact-requires-then-code-eq18 : goal.compact-requires-then-code-eq18
 compact-requires-then-code-eq18 c = rw (to_z-of_z w64 c.args.h.p (sfits_of c.struct_told-then-code-eq18-2-1.given.1.1.1.1.0.1)) (subst (λ (k : ℕ). mask_in (kind_of k) c.args.h.p ≡ true) c.if-code-eq18.true c.requires)
@@ -36,7 +36,7 @@ returns-then-code-eq18 c =
     let h = c.args.h in
     let f = c.compact-then-code-eq18 in
     let g = c.struct_told-then-code-eq18-2-1.given in
-    let whole = subst (Met c.args.list.now c.args.run.now h.p h.q f.new.0 f.result) (sym c.if-code-eq18.true) (rw (to_z-of_z w64 h.p (sfits_of g.1.1.1.1.0.1), to_z-of_z w64 h.q (sfits_of g.1.1.1.1.1.0.1)) at f.ensures) in record { count = whole.0; left = whole.1 }
+    let whole = subst (Met c.args.list.now c.args.run.now h.p h.q f.new.list f.result) (sym c.if-code-eq18.true) (rw (to_z-of_z w64 h.p (sfits_of g.1.1.1.1.0.1), to_z-of_z w64 h.q (sfits_of g.1.1.1.1.1.0.1)) at f.ensures) in record { count = whole.0; left = whole.1 }
 
 pub compact-requires-then-code-eq21 : goal.compact-requires-then-code-eq21
 compact-requires-then-code-eq21 c = rw (to_z-of_z w64 c.args.h.p (sfits_of c.struct_told-then-code-eq21-2-1.given.1.1.1.1.0.1)) (subst (λ (k : ℕ). mask_in (kind_of k) c.args.h.p ≡ true) c.if-code-eq21.true c.requires)
@@ -46,7 +46,7 @@ returns-then-code-eq21 c =
     let h = c.args.h in
     let f = c.compact-then-code-eq21 in
     let g = c.struct_told-then-code-eq21-2-1.given in
-    let whole = subst (Met c.args.list.now c.args.run.now h.p h.q f.new.0 f.result) (sym c.if-code-eq21.true) (rw (to_z-of_z w64 h.p (sfits_of g.1.1.1.1.0.1), to_z-of_z w64 h.q (sfits_of g.1.1.1.1.1.0.1)) at f.ensures) in record { count = whole.0; left = whole.1 }
+    let whole = subst (Met c.args.list.now c.args.run.now h.p h.q f.new.list f.result) (sym c.if-code-eq21.true) (rw (to_z-of_z w64 h.p (sfits_of g.1.1.1.1.0.1), to_z-of_z w64 h.q (sfits_of g.1.1.1.1.1.0.1)) at f.ensures) in record { count = whole.0; left = whole.1 }
 
 pub returns : goal.returns
 returns c =

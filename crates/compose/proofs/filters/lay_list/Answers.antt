@@ -51,8 +51,8 @@ pub lay_domain-requires : goal.lay_domain-requires
 lay_domain-requires c = (field_scaled c.record_at-h.result c.args.file.now c.args.head c.args.end c.requires.0 c.record_at-h.ensures.read, length-take-le c.domain_len-len.result c.args.list.now (room (goal.at.lay_domain-requires c).After-domain_len-len) ∙ long (goal.at.lay_domain-requires c).After-domain_len-len)
 
 -- the list with the domain in front is as long as it was
-same : (c : After-lay_domain) → length (c.lay_domain.new.1.1.0 ++ drop c.domain_len-len.result c.args.list.now) ≡ length c.args.list.now
-same c = length_front c.args.list.now c.lay_domain.new.1.1.0 c.domain_len-len.result c.lay_domain.auto.1.1.0
+same : (c : After-lay_domain) → length (c.lay_domain.new.list ++ drop c.domain_len-len.result c.args.list.now) ≡ length c.args.list.now
+same c = length_front c.args.list.now c.lay_domain.new.list c.domain_len-len.result c.lay_domain.auto.list
 
 pub slice_bounds-narrow_all-end : goal.slice_bounds-narrow_all-end
 slice_bounds-narrow_all-end c = let r = room (goal.at.slice_bounds-narrow_all-end c).After-domain_len-len in let q = same (goal.at.slice_bounds-narrow_all-end c).After-lay_domain in omega arith
@@ -66,13 +66,13 @@ returns c =
     let len = d.domain_len-len.result in
     let h = d.record_at-h.result in
     let cs = constraints_in c.args.file.now c.args.heads.now in
-    let laid = c.lay_domain.new.1.1.0 in
+    let laid = c.lay_domain.new.list in
     let n = c.narrow_all.ensures in
     let front =
-    take_at laid (drop len c.args.list.now) len (c.lay_domain.auto.1.1.0 ∙ length-take-le len c.args.list.now (room d))
+    take_at laid (drop len c.args.list.now) len (c.lay_domain.auto.list ∙ length-take-le len c.args.list.now (room d))
     ∙ c.lay_domain.ensures in
     let e =
     ap (λ (z : List ℤ). foldl (narrow_by c.args.f) z cs) front
     ∙ field_allowed h c.args.file.now d.part-values.result.now c.args.head c.args.end c.requires.0 d.record_at-h.ensures.read (values-are (goal.at.returns c).After-part-values) cs c.args.f in
     let count = n.count ∙ ap length e in
-    record { count = count; front = front_part c.narrow_all.result _ c.narrow_all.new.1.1.1.0 _ count (n.front ∙ e) }
+    record { count = count; front = front_part c.narrow_all.result _ c.narrow_all.new.list _ count (n.front ∙ e) }

@@ -73,7 +73,7 @@ bounds-lists-k-in-loop-k c =
 -- a turn's list, laid behind the others
 turned : (c : After-scratch-1)
     → Laid c.args.file.now c.args.fields.now (constraints_in c.args.file.now c.args.constraints.now) (length c.args.scratch.now)
-    (put_mid c.loop-k.at (length c.loop-k.scratch - c.loop-k.at) c.loop-k.scratch c.lay_list-len.new.1.1.1.1.1.0)
+    (put_mid c.loop-k.at (length c.loop-k.scratch - c.loop-k.at) c.loop-k.scratch c.lay_list-len.new.list)
     (set (set c.loop-k.lists (c.loop-k.k - 1) c.loop-k.at) (31 + c.loop-k.k) c.lay_list-len.result)
     (c.loop-k.at + c.lay_list-len.result) (c.loop-k.k + 1)
 turned c =
@@ -81,9 +81,9 @@ turned c =
     let e = c.requires.0 in
     let n = length l.scratch - l.at in
     let y = c.lay_list-len in
-    let part = y.new.1.1.1.1.1.0 in
+    let part = y.new.list in
     laid_turn c.args.file.now c.args.fields.now (constraints_in c.args.file.now c.args.constraints.now) (length c.args.scratch.now) l.scratch l.lists l.at l.k l.invariant.0 (omega arith) (head_turn_lem (FieldIn c.args.file.now) c.args.fields.now l.k c.requires.1 l.invariant.0.first (omega arith)) (omega arith)
-    y.result part (drop n (drop l.at l.scratch)) y.ensures.count y.ensures.front (same_len_mid l.at n l.scratch part y.auto.1.1.1.1.1.0 ∙ l.invariant.0.long)
+    y.result part (drop n (drop l.at l.scratch)) y.ensures.count y.ensures.front (same_len_mid l.at n l.scratch part y.auto.list ∙ l.invariant.0.long)
 
 pub overflow_add-at : goal.overflow_add-at
 overflow_add-at c = let r = (turned (goal.at.overflow_add-at c).After-scratch-1).room in omega arith
@@ -117,7 +117,7 @@ pub shape_of-scratch : goal.shape_of-scratch
 shape_of-scratch c =
     let s = (goal.at.shape_of-scratch c).Start in
     let l = c.loop-k in
-    same_len_mid l.at (length l.scratch - l.at) l.scratch c.clear.new.0 c.clear.auto.0 ∙ l.invariant.0.long
+    same_len_mid l.at (length l.scratch - l.at) l.scratch c.clear.new.list c.clear.auto.list ∙ l.invariant.0.long
 
 pub shape_of-lists : goal.shape_of-lists
 shape_of-lists c = c.loop-k.invariant.1 ∙ sym (ap length c.requires.4)
@@ -125,4 +125,4 @@ shape_of-lists c = c.loop-k.invariant.1 ∙ sym (ap length c.requires.4)
 pub returns : goal.returns
 returns c =
     let l = c.loop-k in
-    record { scratch = laid_scratch c.args.file.now c.args.fields.now (constraints_in c.args.file.now c.args.constraints.now) (length c.args.scratch.now) l.scratch l.lists l.at l.k l.invariant.0 (omega arith) c.clear.new.0 c.clear.ensures; lists = laid_places c.args.file.now c.args.fields.now (constraints_in c.args.file.now c.args.constraints.now) (length c.args.scratch.now) l.scratch l.lists l.at l.k l.invariant.0 (omega arith) }
+    record { scratch = laid_scratch c.args.file.now c.args.fields.now (constraints_in c.args.file.now c.args.constraints.now) (length c.args.scratch.now) l.scratch l.lists l.at l.k l.invariant.0 (omega arith) c.clear.new.list c.clear.ensures; lists = laid_places c.args.file.now c.args.fields.now (constraints_in c.args.file.now c.args.constraints.now) (length c.args.scratch.now) l.scratch l.lists l.at l.k l.invariant.0 (omega arith) }

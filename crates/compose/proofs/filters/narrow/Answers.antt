@@ -11,11 +11,11 @@ returns-then-met-eq0 c =
     let h = c.args.h in
     let l = c.args.list.now in
     let f = c.compact_met-met in
-    let whole = left-none (filter (passes (test_in (kind_of h.code) h.p h.q (records_of c.args.run.now))) l) l f.new.0 f.result f.ensures.count f.ensures.left c.if-met-eq0.true in record { count = whole.0; left = whole.1 }
+    let whole = left-none (filter (passes (test_in (kind_of h.code) h.p h.q (records_of c.args.run.now))) l) l f.new.list f.result f.ensures.count f.ensures.left c.if-met-eq0.true in record { count = whole.0; left = whole.1 }
 
 pub returns : goal.returns
 returns c =
     let h = c.args.h in
     let l = c.args.list.now in
     let f = c.compact_met-met in
-    let whole = left-some (filter (passes (test_in (kind_of h.code) h.p h.q (records_of c.args.run.now))) l) l f.new.0 f.result f.ensures.count f.ensures.left c.if-met-eq0.false in record { count = whole.0; left = whole.1 }
+    let whole = left-some (filter (passes (test_in (kind_of h.code) h.p h.q (records_of c.args.run.now))) l) l f.new.list f.result f.ensures.count f.ensures.left c.if-met-eq0.false in record { count = whole.0; left = whole.1 }

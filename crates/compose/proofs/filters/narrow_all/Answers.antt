@@ -55,7 +55,7 @@ loop-k-preserved c =
     let e = c.narrow_by-len.ensures in (
       omega arith,
       subst (λ (z : List ℤ). r ≤ length (z ++ rest)) (sym e.left) (over_room new old rest r e.count),
-      length_front l.list c.narrow_by-len.new.1.1.1.1.0 l.len c.narrow_by-len.auto.1.1.1.1.0 ∙ l.invariant.2,
+      length_front l.list c.narrow_by-len.new.list l.len c.narrow_by-len.auto.list ∙ l.invariant.2,
       ap (λ (z : List ℤ). foldl by z (constraints_in file (drop (l.k + 1 - 1) heads))) (ap (λ (z : List ℤ). take r (z ++ rest)) e.left ∙ over_front new old rest r e.count)
           ∙ sym (fold_turn by constraint_of file heads l.k l.invariant.0 old (omega arith)) ∙ l.invariant.3,
     )

@@ -20,11 +20,11 @@ pub index_run-requires : goal.index_run-requires
 index_run-requires c = (length-take-le _ _ c.requires.1, length-take-le _ _ c.requires.1)
 
 -- the index has a place for each item
-many : (c : After-index_run) → length c.index_run.new.1.0 ≡ length c.args.run.now / 32
-many c = c.index_run.auto.1.0 ∙ length-take-le _ _ c.requires.1
+many : (c : After-index_run) → length c.index_run.new.places ≡ length c.args.run.now / 32
+many c = c.index_run.auto.places ∙ length-take-le _ _ c.requires.1
 
-room : (c : After-index_run) (rest : List ℕ) → length c.args.run.now / 32 ≤ length (c.index_run.new.1.0 ++ rest)
-room c rest = omega (arith, many c, length-append c.index_run.new.1.0 rest)
+room : (c : After-index_run) (rest : List ℕ) → length c.args.run.now / 32 ≤ length (c.index_run.new.places ++ rest)
+room c rest = omega (arith, many c, length-append c.index_run.new.places rest)
 
 pub slice_bounds-places-end-2 : goal.slice_bounds-places-end-2
 slice_bounds-places-end-2 c = room (goal.at.slice_bounds-places-end-2 c).After-index_run _
@@ -35,16 +35,16 @@ slice_bounds-compact_items-end c = sym (length-take-le _ _ (room (goal.at.slice_
 pub compact_items-kept-requires : goal.compact_items-kept-requires
 compact_items-kept-requires c =
     let r = (goal.at.compact_items-kept-requires c).After-index_run in
-    subst (Indexed r.args.run.now) (sym (take_at r.index_run.new.1.0 _ _ (many r))) r.index_run.ensures
+    subst (Indexed r.args.run.now) (sym (take_at r.index_run.new.places _ _ (many r))) r.index_run.ensures
 
 pub returns-then-kept-eq0 : goal.returns-then-kept-eq0
 returns-then-kept-eq0 c =
     let h = c.args.h in
     let f = c.compact_items-kept in
-    let whole = found_none h.code c.requires.0 h.p h.q c.args.run.now c.args.list.now f.new.0 f.result f.ensures.count f.ensures.left c.if-kept-eq0.true in record { count = whole.0; left = whole.1 }
+    let whole = found_none h.code c.requires.0 h.p h.q c.args.run.now c.args.list.now f.new.list f.result f.ensures.count f.ensures.left c.if-kept-eq0.true in record { count = whole.0; left = whole.1 }
 
 pub returns : goal.returns
 returns c =
     let h = c.args.h in
     let f = c.compact_items-kept in
-    let whole = found_some h.code c.requires.0 h.p h.q c.args.run.now c.args.list.now f.new.0 f.result f.ensures.count f.ensures.left c.if-kept-eq0.false in record { count = whole.0; left = whole.1 }
+    let whole = found_some h.code c.requires.0 h.p h.q c.args.run.now c.args.list.now f.new.list f.result f.ensures.count f.ensures.left c.if-kept-eq0.false in record { count = whole.0; left = whole.1 }

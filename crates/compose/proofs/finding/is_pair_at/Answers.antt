@@ -70,6 +70,8 @@ q_at-requires c = let s = (goal.at.q_at-requires c).Start in s.requires.0.sorted
 
 -- place k has v
 module _ (c : After-struct_told-2-1) where
+  abbrev start : Start
+  start = c.before.before.before.before.before.before.before.before.before.before.before.before
 
   here : k start < length (places start)
   here = c.if-places-k.false

@@ -88,6 +88,8 @@ q_at-q-requires c = let a = (goal.at.q_at-q-requires c).After-lower-k in a.requi
 
 -- place k has v
 module _ (c : After-struct_told-in-loop-i-1) where
+  abbrev first : After-lower-k
+  first = (record { before = c.before.before.before.before.before.before.before.before.before.before; type_inv = record { places = c.shared_slice_known-2-1.given; run = c.shared_slice_known-1.given } })
 
   here : k first < length (places first)
   here = c.if-places-k.false
@@ -147,7 +149,7 @@ pub loop-i-smaller : goal.loop-i-smaller
 loop-i-smaller c = let f = further (goal.at.loop-i-smaller c).After-reach-next in omega (arith, f.0, f.1)
 
 pub loop-i-preserved : goal.loop-i-preserved
-loop-i-preserved c = let f = further (goal.at.loop-i-preserved c).After-reach-next in (f.1, sym f.2 ∙ (goal.at.loop-i-preserved c).After-struct_told-in-loop-i-1.loop.inv.1)
+loop-i-preserved c = let f = further (goal.at.loop-i-preserved c).After-reach-next in (f.1, sym f.2 ∙ (first (goal.at.loop-i-preserved c).After-struct_told-in-loop-i-1).loop.inv.1)
 
 pub returns : goal.returns
 returns c =

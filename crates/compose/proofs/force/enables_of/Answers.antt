@@ -35,11 +35,11 @@ pub with_kinds-requires-in-Exhaustive : goal.with_kinds-requires-in-Exhaustive
 with_kinds-requires-in-Exhaustive c =
     let n = room (goal.at.with_kinds-requires-in-Exhaustive c).After-with_kinds-masks in
     let w = c.requires.2 in
-    let k = c.with_kinds-masks.auto.1.1.1.1.1.0 in
+    let k = c.with_kinds-masks.auto.numbers in
     (c.requires.0, omega arith, c.requires.1)
 
 pub shape_of-numbers-in-Structural : goal.shape_of-numbers-in-Structural
-shape_of-numbers-in-Structural c = c.with_kinds.auto.1.1.1.1.1.0
+shape_of-numbers-in-Structural c = c.with_kinds.auto.numbers
 
 pub returns-in-Structural : goal.returns-in-Structural
 returns-in-Structural c =
@@ -49,7 +49,7 @@ returns-in-Structural c =
     record { chosen = rw c.in-Structural.is (e.chosen ∙ enables_structural c.args.file.now c.args.heads.now); kinds = (omega arith, e.kinds); rest = e.rest }
 
 pub shape_of-numbers-in-Exhaustive : goal.shape_of-numbers-in-Exhaustive
-shape_of-numbers-in-Exhaustive c = c.with_kinds-in-Exhaustive.auto.1.1.1.1.1.0 ∙ c.with_kinds-masks.auto.1.1.1.1.1.0
+shape_of-numbers-in-Exhaustive c = c.with_kinds-in-Exhaustive.auto.numbers ∙ c.with_kinds-masks.auto.numbers
 
 pub returns-in-Exhaustive : goal.returns-in-Exhaustive
 returns-in-Exhaustive c =
@@ -59,5 +59,5 @@ returns-in-Exhaustive c =
     let e = then.ensures in
     let n = room (goal.at.returns-in-Exhaustive c).After-with_kinds-masks in
     let m = e.0 in
-    let numbers = first.new.1.1.1.1.1.0 in
-    let sets = filter (code_is 22 22) (groups_in c.args.file.now c.args.heads.now) in record { chosen = rw c.in-Exhaustive.is (e.1.0 ∙ ap (λ l. l ++ concat_map constraint_of sets) masks.1.0 ∙ enables_exhaustive c.args.file.now c.args.heads.now); kinds = (omega arith, chosen_both c.args.file.now c.args.heads.now numbers then.new.1.1.1.1.1.0 first.result then.result masks.1.1.1.0 e.1.1.0 e.1.1.1.0); rest = e.1.1.1.1 ∙ subst (λ (k : ℕ). drop k numbers ≡ drop k c.args.numbers.now) (sym m) (rest_more c.args.numbers.now numbers first.result masks.1.1.1.1 _) }
+    let numbers = first.new.numbers in
+    let sets = filter (code_is 22 22) (groups_in c.args.file.now c.args.heads.now) in record { chosen = rw c.in-Exhaustive.is (e.1.0 ∙ ap (λ l. l ++ concat_map constraint_of sets) masks.1.0 ∙ enables_exhaustive c.args.file.now c.args.heads.now); kinds = (omega arith, chosen_both c.args.file.now c.args.heads.now numbers then.new.numbers first.result then.result masks.1.1.1.0 e.1.1.0 e.1.1.1.0); rest = e.1.1.1.1 ∙ subst (λ (k : ℕ). drop k numbers ≡ drop k c.args.numbers.now) (sym m) (rest_more c.args.numbers.now numbers first.result masks.1.1.1.1 _) }

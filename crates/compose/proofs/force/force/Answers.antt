@@ -50,8 +50,8 @@ loop-j-preserved c =
     let l = c.loop-j in
     let f = c.force_by in
     let e = add-one (get_or c.args.chosen.now l.j 0) in
-    let t = forced_turn c.args.file.now c.args.heads.now c.args.chosen.now l.j l.row f.new.1.1.1.0 l.wrote f.result c.if-force_by.wrote (omega arith) (rw e at f.ensures.wrote) (rw e at f.ensures.row) (⊎_elim (λ w. inl (w.0.true, w.1)) (λ w. inr (w.0.false, w.1)) c.if-force_by.branch) in
-    (omega arith, f.auto.1.1.1.0 ∙ l.invariant.1, t.0 ∙ l.invariant.2, t.1 ∙ l.invariant.3)
+    let t = forced_turn c.args.file.now c.args.heads.now c.args.chosen.now l.j l.row f.new.row l.wrote f.result c.if-force_by.wrote (omega arith) (rw e at f.ensures.wrote) (rw e at f.ensures.row) (⊎_elim (λ w. inl (w.0.true, w.1)) (λ w. inr (w.0.false, w.1)) c.if-force_by.branch) in
+    (omega arith, f.auto.row ∙ l.invariant.1, t.0 ∙ l.invariant.2, t.1 ∙ l.invariant.3)
 
 pub shape_of-row : goal.shape_of-row
 shape_of-row c = c.loop-j.invariant.1

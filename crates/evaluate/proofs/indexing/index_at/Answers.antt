@@ -44,10 +44,10 @@ returns c =
     let index = t.args.index.now in
     let head = t.args.head in
     let end = t.args.end in
-    let places = r.new.1.0 in
+    let places = r.new.places in
     let inside = t.requires.1 in
     let long = t.requires.2 in
-    let many : length places ≡ end - suc head = r.auto.1.0 ∙ room t index (omega arith) ∙ size t in
+    let many : length places ≡ end - suc head = r.auto.places ∙ room t index (omega arith) ∙ size t in
     let whole = subst (λ (k : ℕ). IndexIn file (set (put_mid k (end - k) index places) head (4096 + end)) × Unindexed (set (put_mid k (end - k) index places) head (4096 + end)) end) (sym (add-one head)) (
       index_marked file index places (run t) head end t.requires.0 inside long t.requires.3 many r.ensures (size t) t.requires.6 t.requires.5 (run-read t),
       unindexed_marked file index places (run t) head end t.requires.0 inside long t.requires.3 many r.ensures (size t) t.requires.6,

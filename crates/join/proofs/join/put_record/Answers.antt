@@ -16,9 +16,9 @@ moved-requires-2 c =
 
 pub bounds-out-2 : goal.bounds-out-2
 bounds-out-2 c =
-    let out = c.copy_record.new.1.1.0 in
+    let out = c.copy_record.new.out in
     let e = length-set out 1 c.moved.result in
-    omega (arith, e, c.copy_record.auto.1.1.0, c.requires.1)
+    omega (arith, e, c.copy_record.auto.out, c.requires.1)
 
 pub returns : goal.returns
-returns c = record_moved c.args.file.now c.args.i c.row_of-row.result c.small.result c.row_of-row.ensures c.small.ensures.0 c.args.by c.moved.result c.moved-2.result c.copy_record.new.1.1.0 c.copy_record.ensures c.moved.ensures c.moved-2.ensures
+returns c = record_moved c.args.file.now c.args.i c.row_of-row.result c.small.result c.row_of-row.ensures c.small.ensures.0 c.args.by c.moved.result c.moved-2.result c.copy_record.new.out c.copy_record.ensures c.moved.ensures c.moved-2.ensures

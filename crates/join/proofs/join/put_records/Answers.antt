@@ -39,13 +39,13 @@ loop-i-preserved c =
     let p = c.put_record in
     let inside = c.requires.0.inside in
     let k = l.at + 32 - l.at in
-    let ys = p.new.1.1.1.0 in
+    let ys = p.new.out in
     let m = mid_len l.at (l.at + 32) l.out (omega (arith, l.invariant.2, l.invariant.3)) in
-    let y : length ys ≡ 32 = p.auto.1.1.1.0 ∙ m ∙ omega arith in (
+    let y : length ys ≡ 32 = p.auto.out ∙ m ∙ omega arith in (
       omega (arith, l.invariant.0),
       omega arith,
       omega (arith, l.invariant.0, l.invariant.2),
-      same_len_mid l.at k l.out ys p.auto.1.1.1.0 ∙ l.invariant.3,
+      same_len_mid l.at k l.out ys p.auto.out ∙ l.invariant.3,
       range_turn c.args.by c.args.file.now c.args.from l.i l.at k l.out ys l.invariant.0 (omega arith) (omega (arith, l.invariant.2, l.invariant.3)) y l.invariant.4 p.ensures,
     )
 

@@ -14,4 +14,4 @@ returns c =
     let word = c.put_word-totals in
     let args = c.args in
     let number = spaced (decimal args.total) in
-    let tail = put_after word.new.0 spaces.new.0 byte.new.0 word.result spaces.result number newline spaces.ensures.out_after spaces.ensures.value byte.ensures.out_after in record { out_after = put_after args.out.now word.new.0 byte.new.0 args.at word.result accepted_word (number ++ newline) word.ensures.out_after word.ensures.value tail; value = omega (arith, word.ensures.value, spaces.ensures.value, byte.ensures.value, length-append (decimal args.total) newline); upper_bound = omega (arith, word.ensures.value, spaces.ensures.upper_bound, byte.ensures.value) }
+    let tail = put_after word.new.out spaces.new.out byte.new.out word.result spaces.result number newline spaces.ensures.out_after spaces.ensures.value byte.ensures.out_after in record { out_after = put_after args.out.now word.new.out byte.new.out args.at word.result accepted_word (number ++ newline) word.ensures.out_after word.ensures.value tail; value = omega (arith, word.ensures.value, spaces.ensures.value, byte.ensures.value, length-append (decimal args.total) newline); upper_bound = omega (arith, word.ensures.value, spaces.ensures.upper_bound, byte.ensures.value) }

@@ -17,7 +17,7 @@ returns-in-Accepted c =
     let shape = c.judged-1.given in
     let args = c.args in
     let room : length args.text.now ≡ 64 = search rules in
-    let stands = put_first args.text.now put.new.0 (accepted_line shape.0.0.total) put.result put.ensures.out_after put.ensures.value (omega (arith, put.ensures.upper_bound)) in
+    let stands = put_first args.text.now put.new.out (accepted_line shape.0.0.total) put.result put.ensures.out_after put.ensures.value (omega (arith, put.ensures.upper_bound)) in
     let same = ap (λ (v : Validation). answer_line (as_answer v)) (sym shape.1) in
     record { prefix_len = stands.0; text_after = stands.1 ∙ same; text_after_2 = put.ensures.out_after ∙ ap (sets args.text.now 0) same }
 
@@ -28,6 +28,6 @@ returns-in-Refused c =
     let args = c.args in
     let room : length args.text.now ≡ 64 = search rules in
     let line = answer_line (as_answer (Refused refusal.0.0)) in
-    let stands = put_first args.text.now put.new.0 line put.result put.ensures.0 put.ensures.1.0 (omega (arith, put.ensures.1.1)) in
+    let stands = put_first args.text.now put.new.out line put.result put.ensures.0 put.ensures.1.0 (omega (arith, put.ensures.1.1)) in
     let same = ap (λ (v : Validation). answer_line (as_answer v)) (sym refusal.1) in
     record { prefix_len = stands.0; text_after = stands.1 ∙ same; text_after_2 = put.ensures.0 ∙ ap (sets args.text.now 0) same }

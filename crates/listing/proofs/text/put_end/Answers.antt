@@ -35,16 +35,16 @@ returns c =
     let emitted = spaced (decimal args.c.emitted) in
     let passed = spaced (decimal args.c.passed) in
     let failed = spaced (decimal args.c.failed) in
-    let last = byte.new.0 in
-    let from-failed = put_after third.new.0 fourth.new.0 last third.result fourth.result failed newline fourth.ensures.out_after fourth.ensures.value byte.ensures.out_after in
-    let from-passed = put_after second.new.0 third.new.0 last second.result third.result passed (failed ++ newline) third.ensures.out_after third.ensures.value from-failed in
-    let from-emitted = put_after first.new.0 second.new.0 last first.result second.result emitted (passed ++ (failed ++ newline)) second.ensures.out_after second.ensures.value from-passed in
-    let from-total = put_after word.new.0 first.new.0 last word.result first.result total (emitted ++ (passed ++ (failed ++ newline))) first.ensures.out_after first.ensures.value from-emitted in
+    let last = byte.new.out in
+    let from-failed = put_after third.new.out fourth.new.out last third.result fourth.result failed newline fourth.ensures.out_after fourth.ensures.value byte.ensures.out_after in
+    let from-passed = put_after second.new.out third.new.out last second.result third.result passed (failed ++ newline) third.ensures.out_after third.ensures.value from-failed in
+    let from-emitted = put_after first.new.out second.new.out last first.result second.result emitted (passed ++ (failed ++ newline)) second.ensures.out_after second.ensures.value from-passed in
+    let from-total = put_after word.new.out first.new.out last word.result first.result total (emitted ++ (passed ++ (failed ++ newline))) first.ensures.out_after first.ensures.value from-emitted in
     let total-long = length-append (decimal args.c.total) (emitted ++ (passed ++ (failed ++ newline))) in
     let emitted-long = length-append (decimal args.c.emitted) (passed ++ (failed ++ newline)) in
     let passed-long = length-append (decimal args.c.passed) (failed ++ newline) in
     let failed-long = length-append (decimal args.c.failed) newline in
     let whole = rw (room_yes args.out.now args.at 88 (omega (arith, room.if-out-at.false, room.if-out-at-lt88.false))) (
-      put_after args.out.now word.new.0 last args.at word.result end_word (total ++ (emitted ++ (passed ++ (failed ++ newline)))) word.ensures.out_after word.ensures.value from-total,
+      put_after args.out.now word.new.out last args.at word.result end_word (total ++ (emitted ++ (passed ++ (failed ++ newline)))) word.ensures.out_after word.ensures.value from-total,
       omega (arith, word.ensures.value, first.ensures.value, second.ensures.value, third.ensures.value, fourth.ensures.value, byte.ensures.value, total-long, emitted-long, passed-long, failed-long),
     ) in record { out_after = whole.0; value = whole.1 }

@@ -47,10 +47,10 @@ returns c =
     let from-3 = rw (to_z-of_z w64 (word_at words 2) (sfits_of put-projection.put_projection-arg-2-1.given), to_z-of_z w64 (word_at words 3) (sfits_of put-projection.put_projection-arg-3-1.given)) at put-projection.put_projection-values.ensures in
     let part : take (length words - 4) (drop 4 words) ≡ drop 4 words = take_all (length words - 4) (drop 4 words) (omega (arith, length-drop 4 words)) in
     let from-4 = rw part at c.put_values-end.ensures in
-    let last = end.new.0 in
-    let after-values = put_after put-projection.put_projection-values.new.0 c.put_values-end.new.0 last put-projection.put_projection-values.result c.put_values-end.result values newline from-4.0 from-4.1.0 end.ensures.out_after in
-    let after-projection = put_after put-place.put_value-projections.new.0 put-projection.put_projection-values.new.0 last put-place.put_value-projections.result put-projection.put_projection-values.result projection (values ++ newline) from-3.0 from-3.1.0 after-values in
-    let after-place = put_after put-letter.put_byte-places.new.0 put-place.put_value-projections.new.0 last put-letter.put_byte-places.result put-place.put_value-projections.result place (projection ++ (values ++ newline)) from-2.0 from-2.1.0 after-projection in
+    let last = end.new.out in
+    let after-values = put_after put-projection.put_projection-values.new.out c.put_values-end.new.out last put-projection.put_projection-values.result c.put_values-end.result values newline from-4.0 from-4.1.0 end.ensures.out_after in
+    let after-projection = put_after put-place.put_value-projections.new.out put-projection.put_projection-values.new.out last put-place.put_value-projections.result put-projection.put_projection-values.result projection (values ++ newline) from-3.0 from-3.1.0 after-values in
+    let after-place = put_after put-letter.put_byte-places.new.out put-place.put_value-projections.new.out last put-letter.put_byte-places.result put-place.put_value-projections.result place (projection ++ (values ++ newline)) from-2.0 from-2.1.0 after-projection in
     let place-long = length-append place (projection ++ (values ++ newline)) in
     let projection-long = length-append projection (values ++ newline) in
-    let values-long = length-append values newline in record { out_after = put_after args.out.now put-letter.put_byte-places.new.0 last args.at put-letter.put_byte-places.result letter (place ++ (projection ++ (values ++ newline))) from-1.0 from-1.1 after-place; value = omega (arith, from-1.1, from-2.1.0, from-3.1.0, from-4.1.0, end.ensures.value, place-long, projection-long, values-long); upper_bound = omega (arith, from-1.1, from-2.1.1, from-3.1.1, from-4.1.1, end.ensures.value, length-drop 4 words, put-letter.requires) }
+    let values-long = length-append values newline in record { out_after = put_after args.out.now put-letter.put_byte-places.new.out last args.at put-letter.put_byte-places.result letter (place ++ (projection ++ (values ++ newline))) from-1.0 from-1.1 after-place; value = omega (arith, from-1.1, from-2.1.0, from-3.1.0, from-4.1.0, end.ensures.value, place-long, projection-long, values-long); upper_bound = omega (arith, from-1.1, from-2.1.1, from-3.1.1, from-4.1.1, end.ensures.value, length-drop 4 words, put-letter.requires) }

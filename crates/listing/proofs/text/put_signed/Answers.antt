@@ -53,7 +53,7 @@ returns-then-number-lt0 c =
     let byte = c.put_byte-next in
     let number = rw (rest_read t) at c.put_number.ensures in
     let text = below_text args.number (negsuc 0 -ℤ args.number) (below t) in
-    let long = ap (λ (l : List ℕ). length l) text in record { out_after = put_after args.out.now byte.new.0 c.put_number.new.0 args.at byte.result (45 ∷ []) (decimal (digits t)) byte.ensures.out_after byte.ensures.value number.0 ∙ ap (λ (l : List ℕ). sets args.out.now args.at l) (sym text); value = omega (arith, byte.ensures.value, number.1.0, long); upper_bound = omega (arith, byte.ensures.value, number.1.0, short t) }
+    let long = ap (λ (l : List ℕ). length l) text in record { out_after = put_after args.out.now byte.new.out c.put_number.new.out args.at byte.result (45 ∷ []) (decimal (digits t)) byte.ensures.out_after byte.ensures.value number.0 ∙ ap (λ (l : List ℕ). sets args.out.now args.at l) (sym text); value = omega (arith, byte.ensures.value, number.1.0, long); upper_bound = omega (arith, byte.ensures.value, number.1.0, short t) }
 
 natural : (c : Else-number-lt0) → Natural c.args.number
 natural c = let s : Start = c.before.before.before in natural_of s.args.number (rw (number_read s) at c.if-number-lt0.false) s.ranges.number

@@ -13,4 +13,4 @@ pub returns : goal.returns
 returns c =
     let number = c.put_number in
     let byte = c.put_byte-next in
-    let args = c.args in record { out_after = put_after args.out.now byte.new.0 number.new.0 args.at byte.result (32 ∷ []) (decimal args.number) byte.ensures.out_after byte.ensures.value number.ensures.out_after; value = omega (arith, byte.ensures.value, number.ensures.value); upper_bound = omega (arith, byte.ensures.value, number.ensures.upper_bound) }
+    let args = c.args in record { out_after = put_after args.out.now byte.new.out number.new.out args.at byte.result (32 ∷ []) (decimal args.number) byte.ensures.out_after byte.ensures.value number.ensures.out_after; value = omega (arith, byte.ensures.value, number.ensures.value); upper_bound = omega (arith, byte.ensures.value, number.ensures.upper_bound) }

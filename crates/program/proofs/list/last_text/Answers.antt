@@ -23,7 +23,7 @@ returns-in-Refused c =
     let number : r.number < 2 ^ 64 = search rules in
     let at : r.record < 2 ^ 64 = search rules in
     let line = refused_line (refusal r.number r.record) in
-    let stands = put_line_lem old put.new.0 line put.result _ (room_yes old 0 50 (omega arith)) put.ensures.out_after put.ensures.value (omega (arith, refused_short (refusal r.number r.record) number at)) in
+    let stands = put_line_lem old put.new.out line put.result _ (room_yes old 0 50 (omega arith)) put.ensures.out_after put.ensures.value (omega (arith, refused_short (refusal r.number r.record) number at)) in
     record { counted = stands.0; line = stands.1 ∙ ap (λ (v : Counted). last_line (as_counted v)) (sym told.1) ∙ ap last_line counted.ensures.answer }
 
 pub returns-in-Counted : goal.returns-in-Counted
@@ -38,5 +38,5 @@ returns-in-Counted c =
     let emitted : n.emitted < 2 ^ 64 = search rules in
     let passed : n.passed < 2 ^ 64 = search rules in
     let failed : n.failed < 2 ^ 64 = search rules in
-    let stands = put_line_lem old put.new.0 (end_line (as_counts n)) put.result _ (room_yes old 0 88 (omega arith)) put.ensures.out_after put.ensures.value (omega (arith, end_short (as_counts n) total emitted passed failed)) in
+    let stands = put_line_lem old put.new.out (end_line (as_counts n)) put.result _ (room_yes old 0 88 (omega arith)) put.ensures.out_after put.ensures.value (omega (arith, end_short (as_counts n) total emitted passed failed)) in
     record { counted = stands.0; line = stands.1 ∙ ap (λ (v : Counted). last_line (as_counted v)) (sym told.1) ∙ ap last_line counted.ensures.answer }

@@ -24,5 +24,5 @@ returns-in-Written c =
     let page = c.page in
     let told = c.answer2.given in
     let put = c.put_verdicts-len in
-    let lines = page_printed (as_engine args.engine) args.file.now (as_start args.start) args.words.now (length args.scratch.now) page.result.answer page.result.last page.ensures.0 told.0.0 told.0.1.0 told.1 _ c.fields_of.result put.result args.text.now put.new.0 page.ensures.1.1.0 c.fields_of.ensures c.requires put.ensures.out_after put.ensures.value put.ensures.upper_bound in
+    let lines = page_printed (as_engine args.engine) args.file.now (as_start args.start) args.words.now (length args.scratch.now) page.result.answer page.result.last page.ensures.0 told.0.0 told.0.1.0 told.1 _ c.fields_of.result put.result args.text.now put.new.out page.ensures.1.1.0 c.fields_of.ensures c.requires put.ensures.out_after put.ensures.value put.ensures.upper_bound in
     record { counted = lines.0; lines = lines.1.0; more = lines.1.1; last = page.ensures.1.0 }

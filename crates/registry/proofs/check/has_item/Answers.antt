@@ -19,10 +19,9 @@ module _ (c : After-part-run) where
   run-read = c.part-run.ensures.records ∙ rw (add-one c.args.head)
 
 -- the index where the head is marked
-at_head : (c : Then-is_indexed) → IndexedAt (s (record { before = c.before.before.before; type_inv = record { index = c.shared_slice_known-2-1.given; file = c.shared_slice_known-1.given } })).args.file.now (s (record { before = c.before.before.before; type_inv = record { index = c.shared_slice_known-2-1.given; file = c.shared_slice_known-1.given } })).args.index.now (s (record { before = c.before.before.before; type_inv = record { index = c.shared_slice_known-2-1.given; file = c.shared_slice_known-1.given } })).args.head (s (record { before = c.before.before.before; type_inv = record { index = c.shared_slice_known-2-1.given; file = c.shared_slice_known-1.given } })).args.end
+at_head : (c : Then-is_indexed) → IndexedAt c.args.file.now c.args.index.now c.args.head c.args.end
 at_head c =
-    let u = s (record { before = c.before.before.before; type_inv = record { index = c.shared_slice_known-2-1.given; file = c.shared_slice_known-1.given } }) in
-    u.requires.3 u.args.head u.args.end (yes_eq _ _ (sym c.is_indexed.ensures ∙ c.if-is_indexed.true))
+    c.requires.3 c.args.head c.args.end (yes_eq _ _ (sym c.is_indexed.ensures ∙ c.if-is_indexed.true))
 
 pub slice_bounds-finds_p-end : goal.slice_bounds-finds_p-end
 slice_bounds-finds_p-end c = (at_head (goal.at.slice_bounds-finds_p-end c).Then-is_indexed).long

@@ -71,19 +71,19 @@ pub returns-in-12-to-13 : goal.returns-in-12-to-13
 unfolding kind_of
 returns-in-12-to-13 c =
     let s = (goal.at.returns-in-12-to-13 c).Start in
-    let r = c.in_default-1.rest in
-    in_range (λ n. true) (passes_by s) 12 2 refl s.args.code (past-even s.args.code c.if-code-lt10.false r.0.0.0.0.0.0.0.1 r.0.0.0.0.0.0.1) (omega arith)
+    let r = c.in-12-to-13.in_default-own.rest in
+    in_range (λ n. true) (passes_by s) 12 2 refl s.args.code (past-even s.args.code c.in-12-to-13.if-code-lt10-own.false r.0.0.0.0.0.0.0.1 r.0.0.0.0.0.0.1) (omega arith)
 
 pub returns-in-19-to-20 : goal.returns-in-19-to-20
 unfolding kind_of
 returns-in-19-to-20 c =
     let s = (goal.at.returns-in-19-to-20 c).Start in
-    let r = c.in_default-1.rest in
-    in_range (λ n. true) (passes_by s) 19 2 refl s.args.code (past-oneof s.args.code c.if-code-lt14.false r.0.0.0.0.0.1 r.0.0.0.0.1 r.0.0.0.1 r.0.0.1 r.0.1) (omega arith)
+    let r = c.in-19-to-20.in_default-own.rest in
+    in_range (λ n. true) (passes_by s) 19 2 refl s.args.code (past-oneof s.args.code c.in-19-to-20.if-code-lt14-own.false r.0.0.0.0.0.1 r.0.0.0.0.1 r.0.0.0.1 r.0.0.1 r.0.1) (omega arith)
 
 pub returns-in-22-to-255 : goal.returns-in-22-to-255
 unfolding kind_of
 returns-in-22-to-255 c =
     let s = (goal.at.returns-in-22-to-255 c).Start in
-    let r = c.in_default-1.rest in
-    in_range (λ n. true) (passes_by s) 22 234 refl s.args.code (past-bitmask s.args.code c.if-code-lt21.false r.1) (omega arith)
+    let r = c.in-22-to-255.in_default-own.rest in
+    in_range (λ n. true) (passes_by s) 22 234 refl s.args.code (past-bitmask s.args.code c.in-22-to-255.if-code-lt21-own.false r.1) (omega arith)

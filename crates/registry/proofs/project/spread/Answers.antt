@@ -18,7 +18,7 @@ use Rattle.registry.specs.Project.{fitting}
 use Rattle.registry.proofs.Digits.{axis_at, fits_no, fits_yes, from_end, from_full, from_turn, over_top, packed_from}
 use Rattle.registry.proofs.Packing.{plus-digits}
 use Rattle.registry.proofs.Scale.{natural_fits}
-use Rattle.registry.proofs.project.spread.Goals.{After-add_raised-next, After-p_at-radix, Joined-radix-eq0}
+use Rattle.registry.proofs.project.spread.Goals.{then-radix-eq0+else-power-rest, else-radix-eq0, After-add_raised-next, After-p_at-radix, Joined-radix-eq0}
 use Rattle.registry.proofs.project.spread.Goals as goal
 
 pub loop-i-init : goal.loop-i-init
@@ -86,13 +86,15 @@ add_raised-next-requires c =
 -- the axis has room for what is left, if it has no radix
 room : (c : Joined-radix-eq0) → nat_abs (m (record { before = c.before.before; type_inv = record { axes = c.shared_slice_known-1.given } })).p ≡ 0 → rest (record { before = c.before.before; type_inv = record { axes = c.shared_slice_known-1.given } }) < 2 ^ (m (record { before = c.before.before; type_inv = record { axes = c.shared_slice_known-1.given } })).a
 room c =
-    ⊎_elim
-    (λ w e. rw (w.2.ensures, w.1.ensures.0) at w.3.false)
-    (λ w e. absurd (w.left (radix-read (record { before = c.before.before; type_inv = record { axes = c.shared_slice_known-1.given } }) ∙ e)))
-    c.if-radix-eq0.branch
+    elim c.if-radix-eq0.branch [
+      then-radix-eq0+else-power-rest w ↦ λ e. rw (w.power.ensures, w.a_at.ensures.0) at w.if-power-rest.false
+      | else-radix-eq0 w ↦ λ e. absurd (w.if-radix-eq0.false (radix-read (record { before = c.before.before; type_inv = record { axes = c.shared_slice_known-1.given } }) ∙ e))
+    ]
 
 -- the word with this axis' digit
 module _ (c : After-add_raised-next) where
+  abbrev t : After-p_at-radix
+  t = (record { before = c.before.before.before.before.before; type_inv = record { axes = c.shared_slice_known-1.given } })
 
   abbrev next : ℕ
   next = word t + digit_of (nat_abs (m t).p) (rest t) * 2 ^ (m t).b
@@ -107,7 +109,7 @@ pub returns-then-not-next : goal.returns-then-not-next
 returns-then-not-next c =
     let a = (goal.at.returns-then-not-next c).After-add_raised-next in
     let x = t a in
-    sym (over_top (next a) (map axis_of (drop (i x + 1) (records_of (axes x)))) (rest_of (nat_abs (m x).p) (rest x)) (fits_no (next a) (rw (added a) at c.if-not-next.true))) ∙ turned a ∙ x.loop.inv.2
+    sym (over_top (next a) (map axis_of (drop (i x + 1) (records_of (axes x)))) (rest_of (nat_abs (m x).p) (rest x)) (fits_no (next a) (rw (added a) at c.if-not-next.true))) ∙ turned a ∙ x.loop-i.invariant.2
 
 pub overflow_add-i : goal.overflow_add-i
 overflow_add-i c = omega arith
@@ -122,7 +124,7 @@ loop-i-preserved c =
     let fits = fits_yes (next a) (rw (added a) at c.if-not-next.false) in
     let sum = ap (λ (w : code.Word). w.word) (added a) ∙ fits.1 in
     let left = c.quotient-rest.ensures ∙ ap (λ (r : ℕ). rest_of r (rest x)) (radix-read x) in
-    (omega arith, omega (arith, sum, fits.0), ap₂ (λ (w v : ℕ). packed_from (axes x) w v (i x + 1)) sum left ∙ turned a ∙ x.loop.inv.2)
+    (omega arith, omega (arith, sum, fits.0), ap₂ (λ (w v : ℕ). packed_from (axes x) w v (i x + 1)) sum left ∙ turned a ∙ x.loop-i.invariant.2)
 
 pub overflow_cast-result : goal.overflow_cast-result
 overflow_cast-result c = sfits_of c.loop-i.invariant.1

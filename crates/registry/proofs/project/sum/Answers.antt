@@ -1,6 +1,6 @@
 -- `registry::project::sum` meets its contract. The invariant: what is added and what is left make up the whole, and f values are at most f × 2^56.
 use mathlib.Core.List.{List}
-use mathlib.Core.Path.{◌∙◌, ◌≡◌, sym}
+use mathlib.Core.Path.{ap, sym, ◌∙◌, ◌≡◌}
 use Prim.Native.Nat.{◌*◌, ◌+◌, ◌-◌, ◌^◌, ◌≤◌}
 use native.Mathlib.Omega.{arith}
 use borrow.Author.Rules.{sfits_of}
@@ -12,7 +12,7 @@ use mir.ValLaws.{to_z-of_z}
 use Rattle.lists.specs.Integers.{sum_z}
 use Rattle.lists.proofs.All.{All_at}
 use Rattle.spec.proofs.Multiples.{held, scale_bound}
-use Rattle.registry.proofs.Scale.{small_fits, sum_bound, sum_end, sum_more}
+use Rattle.registry.proofs.Scale.{small_fits, sum_from, sum_bound, sum_end, sum_more}
 use Rattle.registry.proofs.project.sum.Goals.{After-total-1}
 use Rattle.registry.proofs.project.sum.Goals as goal
 
@@ -37,12 +37,12 @@ module _ (c : After-total-1) where
   value_read = to_z-of_z w64 value (sfits_of c.total-1.given)
 
   abbrev next : ℤ
-  next = to_z w64 c.loop-f.total +ℤ held value
+  next = to_z w64 c.loop-f.total-bits +ℤ held value
 
   next-bound : nat_abs next ≤ (c.loop-f.f + 1) * 2 ^ 56
   next-bound =
       let scaled = All_at (pos 0) row c.requires.scaled c.loop-f.f c.loop-f-test.true in
-      rw value_read (omega (arith, sum_bound (to_z w64 c.loop-f.total) value, scale_bound value scaled, c.loop-f.invariant.1))
+      rw value_read (omega (arith, sum_bound (to_z w64 c.loop-f.total-bits) value, scale_bound value scaled, c.loop-f.invariant.1))
 
   next_fits : SFits w64 next
   next_fits = small_fits next (omega (arith, next-bound, c.requires.few))
@@ -60,7 +60,7 @@ pub loop-f-preserved : goal.loop-f-preserved
 loop-f-preserved c =
     let l = c.loop-f in
     rw (to_z-of_z w64 (next (goal.at.loop-f-preserved c).After-total-1) (next_fits (goal.at.loop-f-preserved c).After-total-1))
-    (omega arith, next-bound (goal.at.loop-f-preserved c).After-total-1, rw (value_read (goal.at.loop-f-preserved c).After-total-1) (sum_more (row (goal.at.loop-f-preserved c).After-total-1) (to_z w64 l.total) l.f c.loop-f-test.true ∙ l.invariant.2))
+    (omega arith, next-bound (goal.at.loop-f-preserved c).After-total-1, rw (value_read (goal.at.loop-f-preserved c).After-total-1) (sum_more (row (goal.at.loop-f-preserved c).After-total-1) (to_z w64 l.total-bits) l.f c.loop-f-test.true ∙ l.invariant.2))
 
 pub returns : goal.returns
-returns c = sym (sum_end c.args.row.now (to_z w64 c.loop-f.total) c.loop-f.f (omega arith)) ∙ c.loop-f.invariant.2
+returns c = sym (sum_end c.args.row.now (to_z w64 c.loop-f.total-bits) c.loop-f.f (omega arith)) ∙ c.loop-f.invariant.2

@@ -10,7 +10,7 @@ use Rattle.registry.proofs.Scale.{sum_from}
 use Rattle.registry.proofs.project.sum.Given as goal
 
 abbrev pub invariant-loop-f : goal.invariant-loop-f
-invariant-loop-f l = (l.f ≤ length l.row) × (nat_abs (to_z w64 l.total) ≤ l.f * 2 ^ 56) × (to_z w64 l.total +ℤ sum_from l.row l.f ≡ sum_z l.row)
+invariant-loop-f l = (l.f ≤ length l.row) × (nat_abs (l.total) ≤ l.f * 2 ^ 56) × (l.total +ℤ sum_from l.row l.f ≡ sum_z l.row)
 
 abbrev pub decreases-loop-f : goal.decreases-loop-f
 decreases-loop-f l = length l.row - l.f
