@@ -24,7 +24,6 @@ use Rattle.registry.proofs.check.check.Goals as goal
 
 -- the head, its members and the row
 module _ (c : After-w-1) where
-
   abbrev h : Record
   h = record_at c.args.file.now c.args.head
 

@@ -13,7 +13,6 @@ use Rattle.registry.proofs.check.crosses_at.Goals as goal
 
 -- the members, as the part of the file that holds them
 module _ (c : After-part-run) where
-
   run-read : records_of c.part-run.result.now ≡ take (c.args.end - suc c.args.head) (drop (suc c.args.head) (records_of c.args.file.now))
   run-read = c.part-run.ensures.records ∙ rw (add-one c.args.head)
 

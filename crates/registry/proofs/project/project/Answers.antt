@@ -29,7 +29,6 @@ use Rattle.registry.proofs.project.project.Goals as goal
 
 -- the head, its members and the row
 module _ (c : After-v-1) where
-
   abbrev h : Record
   h = record_at c.args.file.now c.args.head
 
@@ -76,7 +75,7 @@ module _ (c : After-v-1) where
 pub decompose-requires : goal.decompose-requires
 decompose-requires c =
     let t = (goal.at.decompose-requires c).After-v-1 in
-        let p = c.p_at in
+    let p = c.p_at in
     let q = c.q_at in
     let base = ap on_scale (to_z-of_z w64 p.result (sfits_of p.type_inv) ∙ p.ensures) ∙ c.requires.1.base_in in
     let offset = ap (λ (x : ℤ). le_z x (pos 63)) (to_z-of_z w64 q.result (sfits_of q.type_inv) ∙ q.ensures) ∙ c.requires.1.offset_in in

@@ -87,7 +87,7 @@ add_raised-next-requires c =
 room : (c : Joined-radix-eq0) → nat_abs (m (record { before = c.before.before; type_inv = record { axes = c.shared_slice_known-1.given } })).p ≡ 0 → rest (record { before = c.before.before; type_inv = record { axes = c.shared_slice_known-1.given } }) < 2 ^ (m (record { before = c.before.before; type_inv = record { axes = c.shared_slice_known-1.given } })).a
 room c =
     elim c.if-radix-eq0.branch [
-      then-radix-eq0+else-power-rest w ↦ λ e. rw (w.power.ensures, w.a_at.ensures.0) at w.if-power-rest.false
+      | then-radix-eq0+else-power-rest w ↦ λ e. rw (w.power.ensures, w.a_at.ensures.0) at w.if-power-rest.false
       | else-radix-eq0 w ↦ λ e. absurd (w.if-radix-eq0.false (radix-read (record { before = c.before.before; type_inv = record { axes = c.shared_slice_known-1.given } }) ∙ e))
     ]
 
