@@ -3,25 +3,26 @@ use mathlib.Core.Bool.{Bool, true}
 use mathlib.Core.List.{List}
 use mathlib.Core.Logic.{⊎_elim}
 use mathlib.Core.Path.{◌∙◌, ◌≡◌, ap, ap₂, sym}
-use Prim.Native.Nat.{◌-◌, suc, ℕ}
+use Prim.Native.Nat.{◌+◌, ◌-◌, suc, ℕ}
 use native.Mathlib.Numerals.{add-one}
 use native.Mathlib.Omega.{arith}
 use borrow.Author.Rules.{sfits_of}
 use borrow.Author.Tests.{not-false}
 use lib.IntN.{pos, ℤ}
-use lib.ListN.{get_or}
+use lib.ListN.{drop, get_or, take}
 use mir.Syntax.{w64}
-use mir.Val.{to_z}
+use mir.Val.{SFits, of_z, to_z}
 use mir.ValLaws.{to_z-of_z}
 use Rattle.lists.specs.Lists.{first_false}
 use Rattle.spec.specs.Code.{as_record}
 use Rattle.spec.specs.Domain.{allows}
-use Rattle.spec.specs.Record.{Record, field_by, records_of}
+use Rattle.spec.specs.Record.{Record, field_by, record_at, records_of}
+use Rattle.spec.specs.declared.records.Record.{Record as Read}
 use Rattle.compose.specs.Code.{FieldIn, fields_in}
 use Rattle.compose.proofs.Laid.{field_scaled, field_at}
 use Rattle.evaluate.specs.Verdict.{field_checks}
 use Rattle.evaluate.proofs.Rows.{behind-none, fields_end, fields_more, fields-passed, fields-stop}
-use Rattle.evaluate.proofs.checks.failing_field.Goals.{After-allows_value, In-loop-f, Joined-row-f}
+use Rattle.evaluate.proofs.checks.failing_field.Goals.{then-row-f+else-not-allows_value, else-row-f, In-loop-f, Joined-row-f}
 use Rattle.evaluate.proofs.checks.failing_field.Goals as goal
 
 module _ (c : In-loop-f) where
@@ -84,43 +85,38 @@ allows_value-requires c =
     let r = c.record_at-h in
     (field_scaled r.result i.args.file.now (head i) (end i) (at_field i) r.ensures.read).r-natural
 
--- the answer of allows_value
-tested : (c : After-allows_value) → allowed (record { before = c.before.before.before.before.before.before.before.before.before.before; type_inv = record { fields = c.shared_slice_known-2-1.given; file = c.shared_slice_known-1.given } }) c.args.row.now ≡ c.allows_value.result
-tested c =
-    let i : In-loop-f = record { before = c.before.before.before.before.before.before.before.before.before.before; type_inv = record { fields = c.shared_slice_known-2-1.given; file = c.shared_slice_known-1.given } } in
-    let r = c.record_at-h in
-    let p = c.part-values in
-    ap₂ (λ (h : Record) (ms : List Record). allows (field_by h.b h ms) (get_or i.args.row.now i.loop-f.f (pos 0))) (sym r.ensures.read) (sym (p.ensures.records ∙ rw (add-one i.loop-f.f, add-one (head i))))
-    ∙ sym (c.allows_value.ensures ∙ ap (allows (field_by r.result.b (as_record r.result) (records_of p.result.now))) (to_z-of_z w64 _ (sfits_of c.allows_value-arg-1.given)))
+-- the answer of allows_value for the record of the turn and the part of the file behind it
+tested : (c : In-loop-f) (h : Read) (values : List ℕ) (answer : Bool) → as_record h ≡ record_at c.args.file.now (head c)
+    → records_of values ≡ take (get_or c.args.fields.now (c.loop-f.f + 1) 0 - (head c + 1)) (drop (head c + 1) (records_of c.args.file.now))
+    → answer ≡ allows (field_by h.b (as_record h) (records_of values)) (to_z w64 (of_z w64 (get_or c.args.row.now c.loop-f.f (pos 0))))
+    → SFits w64 (get_or c.args.row.now c.loop-f.f (pos 0)) → allowed c c.args.row.now ≡ answer
+tested c h values answer read records said fits =
+    ap₂ (λ (r : Record) (ms : List Record). allows (field_by r.b r ms) (get_or c.args.row.now c.loop-f.f (pos 0))) (sym read) (sym (records ∙ rw (add-one c.loop-f.f, add-one (head c))))
+    ∙ sym (said ∙ ap (allows (field_by h.b (as_record h) (records_of values))) (to_z-of_z w64 _ fits))
 
 pub returns-then-not-allows_value : goal.returns-then-not-allows_value
 returns-then-not-allows_value c =
     let i = (goal.at.returns-then-not-allows_value c).In-loop-f in
-    let s = start i in
     let l = i.loop-f in
-    sym (l.invariant.1 ∙ fields-stop s.args.file.now s.args.fields.now s.args.row.now l.f s.requires.0 s.requires.1 (omega arith) (tested (goal.at.returns-then-not-allows_value c).After-allows_value ∙ c.if-not-allows_value.true))
+    sym (l.invariant.1 ∙ fields-stop i.args.file.now i.args.fields.now i.args.row.now l.f i.requires.0 i.requires.1 (omega arith) (tested i c.record_at-h.result c.part-values.result.now c.allows_value.result c.record_at-h.ensures.read c.part-values.ensures.records c.allows_value.ensures (sfits_of c.allows_value-arg-1.given) ∙ c.if-not-allows_value.true))
 
 -- a value that the turn goes past is allowed: by that answer, or because it is the raw one
 passes : (c : Joined-row-f) → allowed (record { before = c.before.before.before.before; type_inv = record { fields = c.shared_slice_known-2-1.given; file = c.shared_slice_known-1.given } }) c.args.raw.now ≡ true → allowed (record { before = c.before.before.before.before; type_inv = record { fields = c.shared_slice_known-2-1.given; file = c.shared_slice_known-1.given } }) c.args.row.now ≡ true
 passes c raw =
-    ⊎_elim
-    (λ u.
-    tested (record { before = record { before = record { before = record { before = record { before = record { before = record { before = (record { before = c.before.before; type_inv = record { fields = c.shared_slice_known-2-1.given; file = c.shared_slice_known-1.given } }); if1 = u.0 }; shared-slice-known3 = u.1 }; record-at = u.2 }; shared-slice-known4 = u.3 }; part = u.4 }; t24 = u.5 }; allows-value = u.6 })
-    ∙ not-false _ u.7.left)
-    (λ u.
     let i : In-loop-f = record { before = c.before.before.before.before; type_inv = record { fields = c.shared_slice_known-2-1.given; file = c.shared_slice_known-1.given } } in
-    ap (allows (field_at i.args.file.now (head i) (end i))) (sym (to_z-of_z w64 _ (sfits_of c.t12-1.given)) ∙ ap (to_z w64) u.left ∙ to_z-of_z w64 _ (sfits_of c.t15-1.given)) ∙ raw)
-    c.if-row-f.branch
+    elim c.if-row-f.branch [
+      then-row-f+else-not-allows_value u ↦ tested i u.record_at-h.result u.part-values.result.now u.allows_value.result u.record_at-h.ensures.read u.part-values.ensures.records u.allows_value.ensures (sfits_of u.allows_value-arg-1.given) ∙ u.if-not-allows_value.false
+      | else-row-f u ↦ ap (allows (field_at i.args.file.now (head i) (end i))) (sym (to_z-of_z w64 _ (sfits_of c.t12-1.given)) ∙ ap (to_z w64) u.if-row-f.false ∙ to_z-of_z w64 _ (sfits_of c.t15-1.given)) ∙ raw
+    ]
 
 pub loop-f-preserved : goal.loop-f-preserved
 loop-f-preserved c =
     let i = (goal.at.loop-f-preserved c).In-loop-f in
-    let s = start i in
     let l = i.loop-f in
-    let file = s.args.file.now in
-    let fields = s.args.fields.now in
-    let raw = fields-passed file fields s.args.raw.now l.f s.requires.0 (omega arith) (omega arith) l.invariant.2 in
-    (omega arith, l.invariant.1 ∙ fields_more file fields s.args.row.now l.f s.requires.0 s.requires.1 (omega arith) (passes (goal.at.loop-f-preserved c).Joined-row-f raw.0), raw.1)
+    let file = i.args.file.now in
+    let fields = i.args.fields.now in
+    let raw = fields-passed file fields i.args.raw.now l.f i.requires.0 (omega arith) (omega arith) l.invariant.2 in
+    (omega arith, l.invariant.1 ∙ fields_more file fields i.args.row.now l.f i.requires.0 i.requires.1 (omega arith) (passes (goal.at.loop-f-preserved c).Joined-row-f raw.0), raw.1)
 
 pub returns : goal.returns
 returns c =

@@ -6,7 +6,7 @@ use native.Mathlib.Omega.{arith}
 use lib.ListN.{get_or}
 use Rattle.registry.specs.Code.{HeadIn}
 use Rattle.evaluate.proofs.Marked.{unindexed_up, zeros_index, zeros_unindexed}
-use Rattle.evaluate.proofs.indexing.index_heads.Goals.{In-loop-k}
+use Rattle.evaluate.proofs.indexing.index_heads.Goals.{then-is_long, else-is_long, In-loop-k}
 use Rattle.evaluate.proofs.indexing.index_heads.Goals as goal
 
 -- the head before k
@@ -56,10 +56,10 @@ loop-k-preserved c =
     let h = here (goal.at.loop-k-preserved c).In-loop-k in
     let one = l.invariant.0 in
     let e : l.k + 1 - 1 ≡ l.k = omega arith in
-    ⊎_elim
-    (λ u. rw (u.8, u.9, e) (omega arith, u.3.kept.1.1.1.0 ∙ l.invariant.1, u.3.kept.1.1.1.1.0 ∙ l.invariant.2, u.3.ensures.0, u.3.ensures.1))
-    (λ u. rw (u.1, u.2, e) (omega arith, l.invariant.1, l.invariant.2, l.invariant.3, let b = h.before in unindexed_up l.index _ _ (omega arith) l.invariant.4))
-    c.if-is_long.branch
+    elim c.if-is_long.branch [
+      then-is_long u ↦ rw (u.index-is, u.spare-is, e) (omega arith, u.index_at.auto.index ∙ l.invariant.1, u.index_at.auto.spare ∙ l.invariant.2, u.index_at.ensures.index, u.index_at.ensures.rest)
+      | else-is_long u ↦ rw (u.index-is, u.spare-is, e) (omega arith, l.invariant.1, l.invariant.2, l.invariant.3, let b = h.before in unindexed_up l.index _ _ (omega arith) l.invariant.4)
+    ]
 
 pub shape_of-index : goal.shape_of-index
 shape_of-index c = c.loop-k.invariant.1
