@@ -50,7 +50,7 @@ module _ (c : After-lower-k) where
 pub returns-then-places-k : goal.returns-then-places-k
 returns-then-places-k c =
     let a = (goal.at.returns-then-places-k c).After-lower-k in
-        listed_none (list a) c.requires.0 (run a) (places a) c.requires.1 (i a) a.loop-i-test.true (k a) (bracket a) c.if-places-k.true ∙ a.loop-i.invariant.1
+    listed_none (list a) c.requires.0 (run a) (places a) c.requires.1 (i a) a.loop-i-test.true (k a) (bracket a) c.if-places-k.true ∙ a.loop-i.invariant.1
 
 pub p_at-p-requires : goal.p_at-p-requires
 p_at-p-requires c = c.requires.1.sorted.inside c.lower-k.result c.if-places-k.false
@@ -64,7 +64,7 @@ p-is c =
 pub returns-then-p-x : goal.returns-then-p-x
 returns-then-p-x c =
     let a = (goal.at.returns-then-p-x c).After-lower-k in
-        let h = a.loop-i-test.true in
+    let h = a.loop-i-test.true in
     sym (least-stop (listed (list a) (run a)) (length (list a)) (i a) h (sym (listed_by (list a) c.requires.0 (run a) (places a) c.requires.1 (i a) h (k a) (bracket a) c.if-places-k.false) ∙ sym (p-is (goal.at.returns-then-p-x c).After-p_at-p) ∙ eqb_yes _ _ c.if-p-x.true))
     ∙ a.loop-i.invariant.1
 

@@ -115,7 +115,7 @@ same c b e =
 pub returns-then-code_at-eq4 : goal.returns-then-code_at-eq4
 returns-then-code_at-eq4 c =
     let a = first (goal.at.returns-then-code_at-eq4 c).After-struct_told-in-loop-i-1 in
-    sym (least-stop (paired (list a) (run a) (v a)) (length (list a)) (i a) a.loop-test.true (sym (same (goal.at.returns-then-code_at-eq4 c).After-code_at true (sym (eqb_yes _ _ c.if-code_at-eq4.true))))) ∙ a.loop.inv.1
+    sym (least-stop (paired (list a) (run a) (v a)) (length (list a)) (i a) a.loop-i-test.true (sym (same (goal.at.returns-then-code_at-eq4 c).After-code_at true (sym (eqb_yes _ _ c.if-code_at-eq4.true))))) ∙ a.loop-i.invariant.1
 
 -- the value at i is paired with v
 pair_is : (c : After-has_pair) → c.has_pair.result ≡ paired (list (first (record { before = c.before.before.before.before.before; type_inv = record { w = c.struct_told-in-loop-i-1.given; v = c.struct_told-1.given; places = c.shared_slice_known-in-loop-i-1.given; run = c.shared_slice_known-1.given } }))) (run (first (record { before = c.before.before.before.before.before; type_inv = record { w = c.struct_told-in-loop-i-1.given; v = c.struct_told-1.given; places = c.shared_slice_known-in-loop-i-1.given; run = c.shared_slice_known-1.given } }))) (v (first (record { before = c.before.before.before.before.before; type_inv = record { w = c.struct_told-in-loop-i-1.given; v = c.struct_told-1.given; places = c.shared_slice_known-in-loop-i-1.given; run = c.shared_slice_known-1.given } }))) (i (first (record { before = c.before.before.before.before.before; type_inv = record { w = c.struct_told-in-loop-i-1.given; v = c.struct_told-1.given; places = c.shared_slice_known-in-loop-i-1.given; run = c.shared_slice_known-1.given } })))
@@ -124,13 +124,13 @@ pair_is c = let a = first (record { before = c.before.before.before.before.befor
 pub returns-then-has_pair : goal.returns-then-has_pair
 returns-then-has_pair c =
     let a = first (goal.at.returns-then-has_pair c).After-struct_told-in-loop-i-1 in
-    sym (least-stop (paired (list a) (run a) (v a)) (length (list a)) (i a) a.loop-test.true (sym (pair_is (goal.at.returns-then-has_pair c).After-has_pair) ∙ c.if-has_pair.true)) ∙ a.loop.inv.1
+    sym (least-stop (paired (list a) (run a) (v a)) (length (list a)) (i a) a.loop-i-test.true (sym (pair_is (goal.at.returns-then-has_pair c).After-has_pair) ∙ c.if-has_pair.true)) ∙ a.loop-i.invariant.1
 
 pub loop-i-preserved-then-q-w : goal.loop-i-preserved-then-q-w
 loop-i-preserved-then-q-w c =
     let a = first (goal.at.loop-i-preserved-then-q-w c).After-struct_told-in-loop-i-1 in
-    let h = a.loop-test.true in
-    (omega arith, rw (add-one (i a)) (sym (least_more (paired (list a) (run a) (v a)) (length (list a)) (i a) h (sym (pair_is (goal.at.loop-i-preserved-then-q-w c).After-has_pair) ∙ c.if-has_pair.false)) ∙ a.loop.inv.1))
+    let h = a.loop-i-test.true in
+    (omega arith, rw (add-one (i a)) (sym (least_more (paired (list a) (run a) (v a)) (length (list a)) (i a) h (sym (pair_is (goal.at.loop-i-preserved-then-q-w c).After-has_pair) ∙ c.if-has_pair.false)) ∙ a.loop-i.invariant.1))
 
 -- where the search goes on
 further : (c : After-reach-next)
@@ -142,14 +142,14 @@ further c =
     let a = first t in
     let s = a.before.before.before.before.before.before in
     let q = t.q_at-q in
-    paired_jump (list a) s.requires.0 (run a) (places a) s.requires.2 (v a) (i a) a.loop-test.true (k a) (bracket a) (here t) (p-same t) (sym (q_is t) ∙ eqb_no _ _ c.if-q-w.false) c.reach-next.result.0
+    paired_jump (list a) s.requires.0 (run a) (places a) s.requires.2 (v a) (i a) a.loop-i-test.true (k a) (bracket a) (here t) (p-same t) (sym (q_is t) ∙ eqb_no _ _ c.if-q-w.false) c.reach-next.result.0
     (c.reach-next.ensures ∙ ap (λ (z : ℤ). least (not_below (list a) z) (i a + 1) (length (list a) - (i a + 1))) (to_z-of_z w64 q.result (sfits_of q.type_inv) ∙ q.ensures))
 
 pub loop-i-smaller : goal.loop-i-smaller
 loop-i-smaller c = let f = further (goal.at.loop-i-smaller c).After-reach-next in omega (arith, f.0, f.1)
 
 pub loop-i-preserved : goal.loop-i-preserved
-loop-i-preserved c = let f = further (goal.at.loop-i-preserved c).After-reach-next in (f.1, sym f.2 ∙ (first (goal.at.loop-i-preserved c).After-struct_told-in-loop-i-1).loop.inv.1)
+loop-i-preserved c = let f = further (goal.at.loop-i-preserved c).After-reach-next in (f.1, sym f.2 ∙ (first (goal.at.loop-i-preserved c).After-struct_told-in-loop-i-1).loop-i.invariant.1)
 
 pub returns : goal.returns
 returns c =

@@ -58,6 +58,6 @@ returns-in-Exhaustive c =
     let masks = first.ensures in
     let e = then.ensures in
     let n = room (goal.at.returns-in-Exhaustive c).After-with_kinds-masks in
-    let m = e.0 in
+    let m = e.count in
     let numbers = first.new.numbers in
-    let sets = filter (code_is 22 22) (groups_in c.args.file.now c.args.heads.now) in record { chosen = rw c.in-Exhaustive.is (e.1.0 ∙ ap (λ l. l ++ concat_map constraint_of sets) masks.1.0 ∙ enables_exhaustive c.args.file.now c.args.heads.now); kinds = (omega arith, chosen_both c.args.file.now c.args.heads.now numbers then.new.numbers first.result then.result masks.1.1.1.0 e.1.1.0 e.1.1.1.0); rest = e.1.1.1.1 ∙ subst (λ (k : ℕ). drop k numbers ≡ drop k c.args.numbers.now) (sym m) (rest_more c.args.numbers.now numbers first.result masks.1.1.1.1 _) }
+    let sets = filter (code_is 22 22) (groups_in c.args.file.now c.args.heads.now) in record { chosen = rw c.in-Exhaustive.is (e.chosen ∙ ap (λ l. l ++ concat_map constraint_of sets) masks.chosen ∙ enables_exhaustive c.args.file.now c.args.heads.now); kinds = (omega arith, chosen_both c.args.file.now c.args.heads.now numbers then.new.numbers first.result then.result masks.kinds e.kept e.kinds); rest = e.rest ∙ subst (λ (k : ℕ). drop k numbers ≡ drop k c.args.numbers.now) (sym m) (rest_more c.args.numbers.now numbers first.result masks.rest _) }

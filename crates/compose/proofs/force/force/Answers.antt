@@ -1,7 +1,7 @@
 -- `compose::force::force` meets its contract. The invariant: what was written so far, and what is left to force by, give what all of them give.
 use mathlib.Core.Bool.{◌||◌}
 use mathlib.Core.List.{foldl}
-use mathlib.Core.Logic.{inl, inr, ⊎_elim}
+use mathlib.Core.Logic.{inl, inr}
 use mathlib.Core.Path.{◌∙◌, ap, refl, sym}
 use Prim.Native.Nat.{◌-◌}
 use native.Mathlib.Numerals.{add-one}
@@ -11,6 +11,7 @@ use Rattle.lists.proofs.Tests.{or_false}
 use Rattle.compose.specs.Code.{is_forced}
 use Rattle.compose.specs.Force.{force_by}
 use Rattle.compose.proofs.Forcing.{chosen_end, forced_turn}
+use Rattle.compose.proofs.force.force.Goals.{else-force_by, then-force_by}
 use Rattle.compose.proofs.force.force.Goals as goal
 
 pub loop-j-init : goal.loop-j-init
@@ -50,7 +51,7 @@ loop-j-preserved c =
     let l = c.loop-j in
     let f = c.force_by in
     let e = add-one (get_or c.args.chosen.now l.j 0) in
-    let t = forced_turn c.args.file.now c.args.heads.now c.args.chosen.now l.j l.row f.new.row l.wrote f.result c.if-force_by.wrote (omega arith) (rw e at f.ensures.wrote) (rw e at f.ensures.row) (⊎_elim (λ w. inl (w.0.true, w.1)) (λ w. inr (w.0.false, w.1)) c.if-force_by.branch) in
+    let t = forced_turn c.args.file.now c.args.heads.now c.args.chosen.now l.j l.row f.new.row l.wrote f.result c.if-force_by.wrote (omega arith) (rw e at f.ensures.wrote) (rw e at f.ensures.row) (elim c.if-force_by.branch [ then-force_by w ↦ inl (w.if-force_by.true, w.wrote-is) | else-force_by w ↦ inr (w.if-force_by.false, w.wrote-is) ]) in
     (omega arith, f.auto.row ∙ l.invariant.1, t.0 ∙ l.invariant.2, t.1 ∙ l.invariant.3)
 
 pub shape_of-row : goal.shape_of-row

@@ -1,7 +1,7 @@
 -- `compose::force::with_kinds` meets its contract. The invariant: the numbers chosen so far, and those of the groups left.
 use mathlib.Core.Bool.{◌||◌}
 use mathlib.Core.List.{List}
-use mathlib.Core.Logic.{inl, inr, ⊎_elim}
+use mathlib.Core.Logic.{inl, inr}
 use mathlib.Core.Path.{◌∙◌, ◌≡◌, ap, subst, sym}
 use Prim.Native.Nat.{◌+◌, ◌-◌, ◌<◌, ◌≤◌, suc, ℕ}
 use native.Mathlib.Omega.{arith}
@@ -12,7 +12,7 @@ use mir.Val.{Fits}
 use Rattle.registry.specs.Code.{group_in}
 use Rattle.compose.specs.Code.{code_is}
 use Rattle.compose.proofs.Chosen.{Picked, picked_end, picked_room, picked_start, picked_turn}
-use Rattle.compose.proofs.force.with_kinds.Goals.{After-code_at-code, Then-code-a}
+use Rattle.compose.proofs.force.with_kinds.Goals.{After-code_at-code, Then-code-a, else-code-a, then-code-a}
 use Rattle.compose.proofs.force.with_kinds.Goals as goal
 
 -- the answer of a turn's test
@@ -77,7 +77,7 @@ loop-k-preserved c =
       omega arith,
       subst p e
           (picked_turn c.args.file.now c.args.heads.now c.args.a c.args.b c.args.numbers.now c.args.before l.numbers l.count (l.k - 1) l.invariant.1 c.requires.1 (omega arith) c.if-code-a.numbers c.if-code-a.count _ (here (goal.at.loop-k-preserved c).After-code_at-code)
-          (⊎_elim (λ w. inl (w.0.true, w.1, w.2)) (λ w. inr (w.0.false, w.1, w.2)) c.if-code-a.branch)),
+          (elim c.if-code-a.branch [ then-code-a w ↦ inl (w.if-code-a.true, w.numbers-is, w.count-is) | else-code-a w ↦ inr (w.if-code-a.false, w.numbers-is, w.count-is) ])),
     )
 
 pub shape_of-numbers : goal.shape_of-numbers
