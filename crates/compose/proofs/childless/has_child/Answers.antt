@@ -1,5 +1,4 @@
 -- `compose::childless::has_child` meets its contract. The invariant: some child value is in the list exactly where one of the records from i on gives it.
-use mathlib.Core.Logic.{⊎_elim}
 use mathlib.Core.Path.{◌∙◌, ◌≡◌, ap, refl, sym}
 use Prim.Native.Nat.{◌+◌, ◌-◌}
 use native.Mathlib.Numerals.{add-one}
@@ -13,7 +12,7 @@ use Rattle.lists.specs.Integers.{elem_z}
 use Rattle.spec.specs.Record.{record_at, records_of}
 use Rattle.spec.proofs.Fields.{length_records}
 use Rattle.compose.proofs.Tabled.{child_none, child_other, child_past, child_stop, child_among}
-use Rattle.compose.proofs.childless.has_child.Goals.{After-has_value}
+use Rattle.compose.proofs.childless.has_child.Goals.{After-has_value, else-is_pair_of, then-is_pair_of+else-has_value}
 use Rattle.compose.proofs.childless.has_child.Goals as goal
 
 pub loop-i-init : goal.loop-i-init
@@ -45,10 +44,10 @@ loop-i-preserved c =
     let p = c.is_pair_of in
     let more : child_among v list (drop l.i (records_of run)) ≡ child_among v list (drop (l.i + 1) (records_of run)) =
     rw (add-one l.i) (
-    ⊎_elim
-    (λ u. child_other v list run l.i (omega arith) (sym p.ensures ∙ u.0.true) (looked (record { before = record { before = record { before = (goal.at.loop-i-preserved c).After-is_pair_of; if1 = u.0 }; q-at = u.1 }; has_value = u.2 }) ∙ u.3.left))
-    (λ u. child_past v list run l.i (omega arith) (sym p.ensures ∙ u.left))
-    c.if-is_pair_of.branch) in
+    elim c.if-is_pair_of.branch [
+      then-is_pair_of+else-has_value u ↦ child_other v list run l.i (omega arith) (sym p.ensures ∙ u.if-is_pair_of.true) (ap (λ (x : ℤ). elem_z x list) (sym u.q_at-w.ensures ∙ sym (to_z-of_z w64 u.q_at-w.result (sfits_of u.q_at-w.type_inv))) ∙ sym u.has_value.ensures ∙ u.if-has_value.false)
+    | else-is_pair_of u ↦ child_past v list run l.i (omega arith) (sym p.ensures ∙ u.if-is_pair_of.false)
+    ]) in
     (omega arith, sym more ∙ l.invariant.1)
 
 pub returns : goal.returns

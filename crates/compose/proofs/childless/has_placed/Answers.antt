@@ -1,7 +1,6 @@
 -- `compose::childless::has_placed` meets its contract. The invariant: some child value is in the list exactly where one of the places from k on gives it.
 use mathlib.Core.Bool.{Bool, ◌&&◌, ◌||◌, false, true}
 use mathlib.Core.List.{List, [], ◌∷◌, map}
-use mathlib.Core.Logic.{⊎_elim}
 use mathlib.Core.Path.{◌∙◌, ◌≡◌, ap, ap₂, refl, sym}
 use Prim.Native.Nat.{◌+◌, ◌-◌, ◌<◌, suc, ℕ}
 use native.Mathlib.Numerals.{add-one}
@@ -20,7 +19,7 @@ use Rattle.spec.specs.Record.{record_at}
 use Rattle.registry.specs.Index.{placed}
 use Rattle.compose.specs.Code.{pairs_with}
 use Rattle.compose.proofs.Tabled.{any_or, any_with}
-use Rattle.compose.proofs.childless.has_placed.Goals.{After-has_value}
+use Rattle.compose.proofs.childless.has_placed.Goals.{After-has_value, else-code_at-eq4, then-code_at-eq4+else-has_value}
 use Rattle.compose.proofs.childless.has_placed.Invariants.{child_at}
 use Rattle.compose.proofs.childless.has_placed.Goals as goal
 
@@ -70,10 +69,10 @@ loop-k-preserved c =
     let a = c.code_at in
     let more : child_at list run (drop l.k places) ≡ child_at list run (drop (l.k + 1) places) =
     rw (add-one l.k) (
-    ⊎_elim
-    (λ u. child_more list run places l.k (omega arith) true false (ap (λ (n : ℕ). eqb n 4) (sym a.ensures) ∙ eqb_yes _ _ u.0.true) (looked (record { before = record { before = record { before = (goal.at.loop-k-preserved c).After-code_at; if1 = u.0 }; q-at = u.1 }; has_value = u.2 }) ∙ u.3.left))
-    (λ u. child_more list run places l.k (omega arith) false (elem_z (placed run places l.k).q list) (ap (λ (n : ℕ). eqb n 4) (sym a.ensures) ∙ eqb_no _ _ u.left) refl)
-    c.if-code_at-eq4.branch) in
+    elim c.if-code_at-eq4.branch [
+      then-code_at-eq4+else-has_value u ↦ child_more list run places l.k (omega arith) true false (ap (λ (n : ℕ). eqb n 4) (sym a.ensures) ∙ eqb_yes _ _ u.if-code_at-eq4.true) (ap (λ (x : ℤ). elem_z x list) (sym u.q_at-w.ensures ∙ sym (to_z-of_z w64 u.q_at-w.result (sfits_of u.q_at-w.type_inv))) ∙ sym u.has_value.ensures ∙ u.if-has_value.false)
+    | else-code_at-eq4 u ↦ child_more list run places l.k (omega arith) false (elem_z (placed run places l.k).q list) (ap (λ (n : ℕ). eqb n 4) (sym a.ensures) ∙ eqb_no _ _ u.if-code_at-eq4.false) refl
+    ]) in
     (omega arith, sym more ∙ l.invariant.1)
 
 pub returns : goal.returns

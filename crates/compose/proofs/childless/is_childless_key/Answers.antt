@@ -2,7 +2,6 @@
 use mathlib.Core.Bool.{Bool, ◌&&◌, not}
 use mathlib.Core.List.{List, map}
 use mathlib.Core.Path.{◌∙◌, ◌≡◌, ap, sym}
-use borrow.Author.Tests.{not-false, not-true}
 use Rattle.lists.specs.Lists.{any}
 use Rattle.spec.specs.Record.{entry_of, records_of}
 use Rattle.spec.specs.Spec.{Entry}
@@ -24,9 +23,9 @@ module _ (c : After-has_p) where
   asked = let s : Start = c.before.before.before.before in ap (λ (b : Bool). b && not has_child) (any_key s.args.v.0 (records_of s.args.run.now) ∙ sym c.has_p.ensures)
 
 pub returns-then-not-has_p : goal.returns-then-not-has_p
-returns-then-not-has_p c = sym (asked (goal.at.returns-then-not-has_p c).After-has_p ∙ ap (λ (b : Bool). b && not (has_child (goal.at.returns-then-not-has_p c).After-has_p)) (not-true c.has_p.result c.if-not-has_p.true))
+returns-then-not-has_p c = sym (asked (goal.at.returns-then-not-has_p c).After-has_p ∙ ap (λ (b : Bool). b && not (has_child (goal.at.returns-then-not-has_p c).After-has_p)) c.if-not-has_p.true)
 
 pub returns : goal.returns
 returns c =
     let h = (goal.at.returns c).After-has_p in
-    ap not c.has_child.ensures ∙ sym (asked h ∙ ap (λ (b : Bool). b && not (has_child h)) (not-false h.has_p.result c.if-not-has_p.false))
+    ap not c.has_child.ensures ∙ sym (asked h ∙ ap (λ (b : Bool). b && not (has_child h)) c.if-not-has_p.false)

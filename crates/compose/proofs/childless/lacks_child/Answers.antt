@@ -53,16 +53,16 @@ module _ (s : Start) (low high : ℕ) (h : Spans s.args.run.now s.args.places.no
 
 pub returns-then-high-low : goal.returns-then-high-low
 returns-then-high-low c =
-    let r = c.Span-of in
+    let r = c.span_of-s in
     sym (asked (goal.at.returns-then-high-low c).Start r.result.low r.result.high r.ensures false (ltb_no r.result.low r.result.high c.if-high-low.true))
 
 pub has_placed-requires : goal.has_placed-requires
 has_placed-requires c =
     let s = (goal.at.has_placed-requires c).Start in
-    let r = c.Span-of in
+    let r = c.span_of-s in
     (inside s r.result.low r.result.high r.ensures, s.requires.1, s.requires.2)
 
 pub returns : goal.returns
 returns c =
-    let r = c.Span-of in
+    let r = c.span_of-s in
     ap not c.has_placed.ensures ∙ sym (asked (goal.at.returns c).Start r.result.low r.result.high r.ensures true (ltb_yes r.result.low r.result.high c.if-high-low.false))
