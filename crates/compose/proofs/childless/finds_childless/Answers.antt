@@ -1,6 +1,5 @@
 -- `compose::childless::finds_childless` meets its contract. The invariant: some key is childless exactly where one of those from i on is.
 use mathlib.Core.Path.{◌∙◌, ◌≡◌, ap, refl, sym}
-use Prim.Native.Nat.{◌-◌}
 use native.Mathlib.Numerals.{add-one}
 use native.Mathlib.Omega.{arith}
 use lib.IntN.{pos}

@@ -1,6 +1,6 @@
 -- `compose::childless::has_child` meets its contract. The invariant: some child value is in the list exactly where one of the records from i on gives it.
 use mathlib.Core.Path.{◌∙◌, ◌≡◌, ap, refl, sym}
-use Prim.Native.Nat.{◌+◌, ◌-◌}
+use Prim.Native.Nat.{◌+◌}
 use native.Mathlib.Numerals.{add-one}
 use native.Mathlib.Omega.{arith}
 use borrow.Author.Rules.{sfits_of}
@@ -33,7 +33,7 @@ looked c =
 pub returns-then-has_value : goal.returns-then-has_value
 returns-then-has_value c =
     let l = c.loop-i in
-        sym (sym l.invariant.1 ∙ child_stop c.args.v.0 c.args.list.now c.args.run.now l.i (omega arith) (sym c.is_pair_of.ensures ∙ c.if-is_pair_of.true) (looked (goal.at.returns-then-has_value c).After-has_value ∙ c.if-has_value.true))
+    sym (sym l.invariant.1 ∙ child_stop c.args.v.0 c.args.list.now c.args.run.now l.i (omega arith) (sym c.is_pair_of.ensures ∙ c.if-is_pair_of.true) (looked (goal.at.returns-then-has_value c).After-has_value ∙ c.if-has_value.true))
 
 pub loop-i-preserved : goal.loop-i-preserved
 loop-i-preserved c =
@@ -45,8 +45,8 @@ loop-i-preserved c =
     let more : child_among v list (drop l.i (records_of run)) ≡ child_among v list (drop (l.i + 1) (records_of run)) =
     rw (add-one l.i) (
     elim c.if-is_pair_of.branch [
-      then-is_pair_of+else-has_value u ↦ child_other v list run l.i (omega arith) (sym p.ensures ∙ u.if-is_pair_of.true) (ap (λ (x : ℤ). elem_z x list) (sym u.q_at-w.ensures ∙ sym (to_z-of_z w64 u.q_at-w.result (sfits_of u.q_at-w.type_inv))) ∙ sym u.has_value.ensures ∙ u.if-has_value.false)
-    | else-is_pair_of u ↦ child_past v list run l.i (omega arith) (sym p.ensures ∙ u.if-is_pair_of.false)
+      | then-is_pair_of+else-has_value u ↦ child_other v list run l.i (omega arith) (sym p.ensures ∙ u.if-is_pair_of.true) (ap (λ (x : ℤ). elem_z x list) (sym u.q_at-w.ensures ∙ sym (to_z-of_z w64 u.q_at-w.result (sfits_of u.q_at-w.type_inv))) ∙ sym u.has_value.ensures ∙ u.if-has_value.false)
+      | else-is_pair_of u ↦ child_past v list run l.i (omega arith) (sym p.ensures ∙ u.if-is_pair_of.false)
     ]) in
     (omega arith, sym more ∙ l.invariant.1)
 

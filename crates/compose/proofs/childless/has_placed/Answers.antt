@@ -2,7 +2,7 @@
 use mathlib.Core.Bool.{Bool, ◌&&◌, ◌||◌, false, true}
 use mathlib.Core.List.{List, [], ◌∷◌, map}
 use mathlib.Core.Path.{◌∙◌, ◌≡◌, ap, ap₂, refl, sym}
-use Prim.Native.Nat.{◌+◌, ◌-◌, ◌<◌, suc, ℕ}
+use Prim.Native.Nat.{◌+◌, ◌<◌, suc, ℕ}
 use native.Mathlib.Numerals.{add-one}
 use native.Mathlib.Omega.{arith}
 use borrow.Author.Rules.{sfits_of}
@@ -58,7 +58,7 @@ looked c =
 pub returns-then-has_value : goal.returns-then-has_value
 returns-then-has_value c =
     let l = c.loop-k in
-        sym (sym l.invariant.1 ∙ child_more c.args.list.now c.args.run.now c.args.places.now l.k (omega arith) true true (ap (λ (n : ℕ). eqb n 4) (sym c.code_at.ensures) ∙ eqb_yes _ _ c.if-code_at-eq4.true) (looked (goal.at.returns-then-has_value c).After-has_value ∙ c.if-has_value.true))
+    sym (sym l.invariant.1 ∙ child_more c.args.list.now c.args.run.now c.args.places.now l.k (omega arith) true true (ap (λ (n : ℕ). eqb n 4) (sym c.code_at.ensures) ∙ eqb_yes _ _ c.if-code_at-eq4.true) (looked (goal.at.returns-then-has_value c).After-has_value ∙ c.if-has_value.true))
 
 pub loop-k-preserved : goal.loop-k-preserved
 loop-k-preserved c =
@@ -70,8 +70,8 @@ loop-k-preserved c =
     let more : child_at list run (drop l.k places) ≡ child_at list run (drop (l.k + 1) places) =
     rw (add-one l.k) (
     elim c.if-code_at-eq4.branch [
-      then-code_at-eq4+else-has_value u ↦ child_more list run places l.k (omega arith) true false (ap (λ (n : ℕ). eqb n 4) (sym a.ensures) ∙ eqb_yes _ _ u.if-code_at-eq4.true) (ap (λ (x : ℤ). elem_z x list) (sym u.q_at-w.ensures ∙ sym (to_z-of_z w64 u.q_at-w.result (sfits_of u.q_at-w.type_inv))) ∙ sym u.has_value.ensures ∙ u.if-has_value.false)
-    | else-code_at-eq4 u ↦ child_more list run places l.k (omega arith) false (elem_z (placed run places l.k).q list) (ap (λ (n : ℕ). eqb n 4) (sym a.ensures) ∙ eqb_no _ _ u.if-code_at-eq4.false) refl
+      | then-code_at-eq4+else-has_value u ↦ child_more list run places l.k (omega arith) true false (ap (λ (n : ℕ). eqb n 4) (sym a.ensures) ∙ eqb_yes _ _ u.if-code_at-eq4.true) (ap (λ (x : ℤ). elem_z x list) (sym u.q_at-w.ensures ∙ sym (to_z-of_z w64 u.q_at-w.result (sfits_of u.q_at-w.type_inv))) ∙ sym u.has_value.ensures ∙ u.if-has_value.false)
+      | else-code_at-eq4 u ↦ child_more list run places l.k (omega arith) false (elem_z (placed run places l.k).q list) (ap (λ (n : ℕ). eqb n 4) (sym a.ensures) ∙ eqb_no _ _ u.if-code_at-eq4.false) refl
     ]) in
     (omega arith, sym more ∙ l.invariant.1)
 

@@ -1,6 +1,5 @@
 -- `compose::childless::is_childless` meets its contract. The invariant: some field is childless exactly where one of those from f on is.
 use mathlib.Core.Path.{◌∙◌, sym}
-use Prim.Native.Nat.{◌-◌}
 use native.Mathlib.Nat.{sub-zero}
 use native.Mathlib.Numerals.{add-one}
 use native.Mathlib.Omega.{arith}

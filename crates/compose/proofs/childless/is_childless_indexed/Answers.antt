@@ -38,4 +38,4 @@ slice_bounds-places_childless-end c = sym (length-take-le _ _ (room (goal.at.sli
 pub places_childless-requires : goal.places_childless-requires
 places_childless-requires c =
     let r = (goal.at.places_childless-requires c).After-index_run in
-        (front r _, c.requires.1, c.requires.2)
+    (front r _, c.requires.1, c.requires.2)
