@@ -1,5 +1,5 @@
 -- `compose::filters::narrow_by` meets its contract: a record of another kind, or of another field, narrows nothing.
-use mathlib.Core.Bool.{◌&&◌, true}
+use mathlib.Core.Bool.{true}
 use mathlib.Core.List.{List, foldl}
 use mathlib.Core.Path.{◌∙◌, ◌≡◌, ap, sym}
 use Prim.Native.Nat.{◌+◌, ◌-◌, ℕ}
