@@ -1,5 +1,4 @@
 -- `compose::filters::compact` meets its contract. The invariant: those of the first i values that meet the test stand in front.
-use mathlib.Core.Logic.{⊎_elim}
 use mathlib.Core.Path.{◌∙◌, ◌≡◌, sym}
 use Prim.Native.Nat.{◌-◌}
 use native.Mathlib.Omega.{arith}
@@ -11,7 +10,7 @@ use mir.Val.{of_z, to_z}
 use mir.ValLaws.{to_z-of_z}
 use Rattle.spec.proofs.Multiples.{held}
 use Rattle.compose.proofs.Narrowing.{moved_count, moved_end, moved_kept, moved_none, moved_past, moved_read, test_with}
-use Rattle.compose.proofs.filters.compact.Goals.{After-meets, After-x-1}
+use Rattle.compose.proofs.filters.compact.Goals.{After-meets, After-x-1, else-meets, then-meets}
 use Rattle.compose.proofs.filters.compact.Goals as goal
 
 pub loop-i-init : goal.loop-i-init
@@ -61,10 +60,10 @@ loop-i-preserved c =
     let l = c.loop-i in
     let p = test_with c.args.code (held c.args.p) (held c.args.q) c.args.run.now in
     let e = l.invariant.long in
-    ⊎_elim
-    (λ u. rw (u.1, u.2, value (goal.at.loop-i-preserved c).After-x-1) (moved_kept p c.args.list.now l.list l.w l.i l.invariant (omega arith) (test (goal.at.loop-i-preserved c).After-meets ∙ u.0.true)))
-    (λ u. rw (u.1, u.2) (moved_past p c.args.list.now l.list l.w l.i l.invariant (omega arith) (test (goal.at.loop-i-preserved c).After-meets ∙ u.0.left)))
-    c.if-meets.branch
+    elim c.if-meets.branch [
+      then-meets u ↦ rw (u.list-is, u.w-is, value (goal.at.loop-i-preserved c).After-x-1) (moved_kept p c.args.list.now l.list l.w l.i l.invariant (omega arith) (test (goal.at.loop-i-preserved c).After-meets ∙ u.if-meets.true))
+      | else-meets u ↦ rw (u.list-is, u.w-is) (moved_past p c.args.list.now l.list l.w l.i l.invariant (omega arith) (test (goal.at.loop-i-preserved c).After-meets ∙ u.if-meets.false))
+    ]
 
 pub shape_of-list : goal.shape_of-list
 shape_of-list c = c.loop-i.invariant.long
@@ -74,4 +73,7 @@ returns c =
     let l = c.loop-i in
     let p = test_with c.args.code (held c.args.p) (held c.args.q) c.args.run.now in
     let e = l.invariant.long in
-    let whole = rw (sym (to_z-of_z w64 c.args.p c.ranges.p), sym (to_z-of_z w64 c.args.q c.ranges.q)) (moved_count p c.args.list.now l.list l.w l.i l.invariant (omega arith), moved_end p c.args.list.now l.list l.w l.i l.invariant (omega arith)) in record { count = whole.0; left = whole.1 }
+    record {
+      count = rw (sym (to_z-of_z w64 c.args.p c.ranges.p), sym (to_z-of_z w64 c.args.q c.ranges.q)) (moved_count p c.args.list.now l.list l.w l.i l.invariant (omega arith));
+      left = rw (sym (to_z-of_z w64 c.args.p c.ranges.p), sym (to_z-of_z w64 c.args.q c.ranges.q)) (moved_end p c.args.list.now l.list l.w l.i l.invariant (omega arith));
+    }

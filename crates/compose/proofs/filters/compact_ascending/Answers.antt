@@ -5,7 +5,7 @@ use mathlib.Core.Path.{◌∙◌, ◌≡◌, ap, refl, subst, sym}
 use Prim.Native.Nat.{◌+◌, ◌-◌, ◌<◌, suc, zero, ℕ}
 use native.Mathlib.Nat.{add-zero, zero-add}
 use native.Mathlib.Omega.{arith}
-use borrow.Author.Rules.{rules, sfits_of}
+use borrow.Author.Rules.{rules}
 use lib.IntN.{pos, ℤ}
 use lib.ListN.{drop, get_or, length, length-drop, set, take}
 use lib.Seq.{get_or-drop, take_all}
@@ -16,7 +16,6 @@ use Rattle.compose.proofs.Ascending.{ascending_drop}
 use Rattle.compose.proofs.Narrowing.{Moved, is_item, moved_count, moved_end, moved_kept, moved_none, moved_past, moved_read, rest_more}
 use Rattle.compose.specs.Code.{is_ascending}
 use Rattle.compose.specs.Walk.{least}
-use Rattle.compose.proofs.filters.compact_ascending.Goals.{After-next_item-next, After-x-1, In-loop-i}
 use Rattle.compose.proofs.filters.compact_ascending.Goals as goal
 
 module _ (p : ℤ → Bool) (l₀ l : List ℤ) (w : ℕ) where
@@ -44,89 +43,40 @@ loop-i-init c =
     let p = is_item c.args.run.now in
     subst (Next p l l 0) (zero-add _ ∙ sym c.next_item-first.ensures) (next-is p l l 0 0 (length l) 0 (omega arith) (moved_none p l))
 
-pub slice_copy_out-x : goal.slice_copy_out-x
-slice_copy_out-x c = let e = c.loop-i.invariant.0.long in omega arith
-
--- the value at i moved to the front
-module _ (c : After-x-1) where
-  abbrev list : List ℤ
-  list = c.args.list.now
-
-  abbrev test : ℤ → Bool
-  test = is_item c.args.run.now
-
-  abbrev i : ℕ
-  i = c.loop-i.i
-
-  abbrev w : ℕ
-  w = c.loop-i.w
-
+-- x, the value at i, moved to the front
+module _ (p : ℤ → Bool) (l₀ l : List ℤ) (w i : ℕ) (n : Next p l₀ l w i) (h : i < length l₀) (x : ℤ) (e : x ≡ get_or l i (pos 0)) where
   abbrev left : List ℤ
-  left = set c.loop-i.list w (to_z w64 (of_z w64 (get_or c.loop-i.list i (pos 0))))
+  left = set l w x
 
-  kept : Moved test list left (w + 1) (i + 1)
-  kept =
-      let l = c.loop-i in
-      let h = c.loop-i-test.true in
-      rw (to_z-of_z w64 _ (sfits_of c.x-1.given) ∙ moved_read test list l.list w i l.invariant.0) (moved_kept test list l.list w i l.invariant.0 h (l.invariant.1 h))
+  kept : Moved p l₀ left (w + 1) (i + 1)
+  kept = rw (e ∙ moved_read p l₀ l w i n.0) (moved_kept p l₀ l w i n.0 h (n.1 h))
 
   -- what is lent on
   part_is : take (length left - (i + 1)) (drop (i + 1) left) ≡ drop (i + 1) left
   part_is = take_all (length left - (i + 1)) (drop (i + 1) left) (omega (arith, length-drop (i + 1) left))
 
-pub offset_bounds-list-w : goal.offset_bounds-list-w
-offset_bounds-list-w c = let m = c.loop-i.invariant.0 in omega (arith, m.behind, m.long)
+  part_up : is_ascending l₀ ≡ true → is_ascending (take (length left - (i + 1)) (drop (i + 1) left)) ≡ true
+  part_up up = ap is_ascending (part_is ∙ same_from p l₀ left (w + 1) (i + 1) kept) ∙ ascending_drop l₀ up (i + 1)
 
-pub bounds-list-w : goal.bounds-list-w
-bounds-list-w c = let m = c.loop-i.invariant.0 in omega (arith, m.behind, m.long)
-
-pub overflow_add-w : goal.overflow_add-w
-overflow_add-w c = let m = c.loop-i.invariant.0 in omega (arith, m.behind, m.long)
-
-pub overflow_add-from : goal.overflow_add-from
-overflow_add-from c = let m = c.loop-i.invariant.0 in omega (arith, m.behind, m.long)
-
-pub offset_bounds-list-from : goal.offset_bounds-list-from
-offset_bounds-list-from c = let m = c.loop-i.invariant.0 in omega (arith, m.behind, m.long)
-
-pub slice_bounds-next_item-count : goal.slice_bounds-next_item-count
-slice_bounds-next_item-count c = let m = kept (goal.at.slice_bounds-next_item-count c).After-x-1 in omega (arith, m.long, m.inside)
-
-pub slice_bounds-next_item-start : goal.slice_bounds-next_item-start
-slice_bounds-next_item-start c = let m = kept (goal.at.slice_bounds-next_item-start c).In-loop-i in let a = m.long in let b = m.inside in search rules
-
-pub slice_bounds-next_item-end : goal.slice_bounds-next_item-end
-slice_bounds-next_item-end c = let m = kept (goal.at.slice_bounds-next_item-end c).In-loop-i in let a = m.long in let b = m.inside in search rules
+  -- the next value that is to be moved
+  further : (next : ℕ) → next ≡ least (λ b. p (get_or (take (length left - (i + 1)) (drop (i + 1) left)) b (pos 0))) 0 (length (take (length left - (i + 1)) (drop (i + 1) left))) → Next p l₀ left (w + 1) (i + 1 + next)
+  further next r =
+      let d = drop (i + 1) left in
+      subst (λ (n : ℕ). Next p l₀ left (w + 1) (i + 1 + n)) (sym (r ∙ ap (λ (z : List ℤ). least (λ b. p (get_or z b (pos 0))) 0 (length z)) part_is))
+      (next-is p l₀ left (w + 1) (i + 1) (length d) 0 (omega (arith, kept.long, kept.inside, length-drop (i + 1) left)) (rw (add-zero (i + 1)) kept))
 
 pub next_item-next-requires : goal.next_item-next-requires
 next_item-next-requires c =
-    let a = (goal.at.next_item-next-requires c).In-loop-i in
-    let s = a.before.before.before.before.before.before.before in
-    (ap is_ascending (part_is a ∙ same_from (test a) (list a) (left a) (w a + 1) (i a + 1) (kept a)) ∙ ascending_drop (list a) s.requires.0 (i a + 1), s.requires.1)
-
--- the next value that is to be moved
-further : (c : After-next_item-next) → Next (test (record { before = c.before.before.before.before; type_inv = record { places = c.shared_slice_known-2-1.given; run = c.shared_slice_known-1.given } })) (list (record { before = c.before.before.before.before; type_inv = record { places = c.shared_slice_known-2-1.given; run = c.shared_slice_known-1.given } })) (left (record { before = c.before.before.before.before; type_inv = record { places = c.shared_slice_known-2-1.given; run = c.shared_slice_known-1.given } })) (w (record { before = c.before.before.before.before; type_inv = record { places = c.shared_slice_known-2-1.given; run = c.shared_slice_known-1.given } }) + 1) (i (record { before = c.before.before.before.before; type_inv = record { places = c.shared_slice_known-2-1.given; run = c.shared_slice_known-1.given } }) + 1 + c.next_item-next.result.0)
-further c =
-    let a : In-loop-i = record { before = c.before.before.before.before; type_inv = record { places = c.shared_slice_known-2-1.given; run = c.shared_slice_known-1.given } } in
-    let m = kept a in
-    let d = drop (i a + 1) (left a) in
-    subst (λ (n : ℕ). Next (test a) (list a) (left a) (w a + 1) (i a + 1 + n)) (sym (c.next_item-next.ensures ∙ ap (λ (l : List ℤ). least (λ b. test a (get_or l b (pos 0))) 0 (length l)) (part_is a)))
-    (next-is (test a) (list a) (left a) (w a + 1) (i a + 1) (length d) 0 (omega (arith, m.long, m.inside, length-drop (i a + 1) (left a))) (rw (add-zero (i a + 1)) m))
+    let l = c.loop-i in
+    (part_up (is_item c.args.run.now) c.args.list.now l.list l.w l.i l.invariant c.loop-i-test.true _ (to_z-of_z w64 (get_or l.list l.i (pos 0)) (search rules)) c.requires.0, c.requires.1)
 
 pub overflow_add-i : goal.overflow_add-i
-overflow_add-i c = let n = (further (goal.at.overflow_add-i c).After-next_item-next).0.inside in omega arith
-
-pub loop-i-smaller : goal.loop-i-smaller
-loop-i-smaller c = let n = (further (goal.at.loop-i-smaller c).After-next_item-next).0.inside in omega arith
+overflow_add-i c =
+    let l = c.loop-i in
+    let n = (further (is_item c.args.run.now) c.args.list.now l.list l.w l.i l.invariant c.loop-i-test.true _ (to_z-of_z w64 (get_or l.list l.i (pos 0)) (search rules)) c.next_item-next.result.0 c.next_item-next.ensures).0.inside in
+    omega arith
 
 pub loop-i-preserved : goal.loop-i-preserved
-loop-i-preserved c = further (goal.at.loop-i-preserved c).After-next_item-next
-
-pub shape_of-list : goal.shape_of-list
-shape_of-list c = c.loop-i.invariant.0.long
-
-pub returns : goal.returns
-returns c =
+loop-i-preserved c =
     let l = c.loop-i in
-    let p = is_item c.args.run.now in
-    record { count = moved_count p c.args.list.now l.list l.w l.i l.invariant.0 c.loop-i-test.false; left = moved_end p c.args.list.now l.list l.w l.i l.invariant.0 c.loop-i-test.false }
+    further (is_item c.args.run.now) c.args.list.now l.list l.w l.i l.invariant c.loop-i-test.true _ (to_z-of_z w64 (get_or l.list l.i (pos 0)) (search rules)) c.next_item-next.result.0 c.next_item-next.ensures

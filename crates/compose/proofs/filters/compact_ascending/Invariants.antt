@@ -1,11 +1,14 @@
 -- `compose::filters::compact_ascending` meets its contract. The invariant: those of the first i values that are among the items stand in front, and the value at i is one of them.
-use Prim.Native.Nat.{◌-◌}
-use lib.ListN.{length}
-use Rattle.compose.proofs.Narrowing.{is_item}
+use mathlib.Core.Bool.{true}
+use mathlib.Core.Path.{◌≡◌}
+use Prim.Native.Nat.{◌-◌, ◌<◌}
+use lib.IntN.{pos}
+use lib.ListN.{get_or, length}
+use Rattle.compose.proofs.Narrowing.{Moved, is_item}
 use Rattle.compose.proofs.filters.compact_ascending.Given as goal
 
 abbrev pub invariant-loop-i : goal.invariant-loop-i
-invariant-loop-i l = Next (is_item l.run) l.initial.list l.list l.w l.i
+invariant-loop-i l = Moved (is_item l.run) l.initial.list l.list l.w l.i × (l.i < length l.initial.list → is_item l.run (get_or l.initial.list l.i (pos 0)) ≡ true)
 
 abbrev pub decreases-loop-i : goal.decreases-loop-i
 decreases-loop-i l = length l.initial.list - l.i

@@ -1,5 +1,4 @@
 -- `compose::filters::compact_found` meets its contract. The invariant: those of the first i values that are among the items stand in front.
-use mathlib.Core.Logic.{⊎_elim}
 use mathlib.Core.Path.{◌∙◌, ◌≡◌, sym}
 use Prim.Native.Nat.{◌-◌}
 use native.Mathlib.Omega.{arith}
@@ -10,7 +9,7 @@ use mir.Syntax.{w64}
 use mir.Val.{of_z, to_z}
 use mir.ValLaws.{to_z-of_z}
 use Rattle.compose.proofs.Narrowing.{is_item, moved_count, moved_end, moved_kept, moved_none, moved_past, moved_read}
-use Rattle.compose.proofs.filters.compact_found.Goals.{After-finds_p, After-x-1}
+use Rattle.compose.proofs.filters.compact_found.Goals.{After-finds_p, After-x-1, else-finds_p, then-finds_p}
 use Rattle.compose.proofs.filters.compact_found.Goals as goal
 
 pub loop-i-init : goal.loop-i-init
@@ -57,10 +56,10 @@ loop-i-preserved c =
     let l = c.loop-i in
     let p = is_item c.args.run.now in
     let e = l.invariant.long in
-    ⊎_elim
-    (λ u. rw (u.1, u.2, value (goal.at.loop-i-preserved c).After-x-1) (moved_kept p c.args.list.now l.list l.w l.i l.invariant (omega arith) (test (goal.at.loop-i-preserved c).After-finds_p ∙ u.0.true)))
-    (λ u. rw (u.1, u.2) (moved_past p c.args.list.now l.list l.w l.i l.invariant (omega arith) (test (goal.at.loop-i-preserved c).After-finds_p ∙ u.0.left)))
-    c.if-finds_p.branch
+    elim c.if-finds_p.branch [
+      then-finds_p u ↦ rw (u.list-is, u.w-is, value (goal.at.loop-i-preserved c).After-x-1) (moved_kept p c.args.list.now l.list l.w l.i l.invariant (omega arith) (test (goal.at.loop-i-preserved c).After-finds_p ∙ u.if-finds_p.true))
+      | else-finds_p u ↦ rw (u.list-is, u.w-is) (moved_past p c.args.list.now l.list l.w l.i l.invariant (omega arith) (test (goal.at.loop-i-preserved c).After-finds_p ∙ u.if-finds_p.false))
+    ]
 
 pub shape_of-list : goal.shape_of-list
 shape_of-list c = c.loop-i.invariant.long

@@ -20,10 +20,10 @@ pub returns-then-code-items : goal.returns-then-code-items
 returns-then-code-items c e = absurd (false≢true e)
 
 pub returns-then-items-list : goal.returns-then-items-list
-returns-then-items-list c = few (goal.at.returns-then-items-list c).Else-code-items
+returns-then-items-list c _ = few (goal.at.returns-then-items-list c).Else-code-items
 
 pub returns-then-list-le512 : goal.returns-then-list-le512
 returns-then-list-le512 c e = absurd (false≢true e)
 
 pub returns : goal.returns
-returns c = few (goal.at.returns c).Else-code-items
+returns c _ = few (goal.at.returns c).Else-code-items

@@ -10,18 +10,13 @@ use Rattle.compose.proofs.sieve.lay_sieve.Goals as goal
 pub loop-i-init : goal.loop-i-init
 loop-i-init c = (omega arith, refl, marked-none c.args.list.now c.args.sieve.now)
 
-pub bounds-sieve-k : goal.bounds-sieve-k
-bounds-sieve-k c =
-    let l = c.loop-i in
-    omega (arith, c.remainder_of-k.ensures.1, l.invariant.1, c.requires)
-
 pub loop-i-preserved : goal.loop-i-preserved
 loop-i-preserved c =
     let l = c.loop-i in
     let r = c.remainder_of-k in (
       omega arith,
       length-set l.sieve r.result 1 ∙ l.invariant.1,
-      marked_more c.args.list.now l.sieve l.i r.result (r.ensures.0 ∙ ap remainder_of c.value_at.ensures) (bounds-sieve-k (goal.at.loop-i-preserved c).After-remainder_of-k) l.invariant.2,
+      marked_more c.args.list.now l.sieve l.i r.result (r.ensures.0 ∙ ap remainder_of c.value_at.ensures) (omega (arith, r.ensures.1, l.invariant.1, c.requires)) l.invariant.2,
     )
 
 pub returns : goal.returns

@@ -23,10 +23,10 @@ below : (c : Then-x-lt0) → Below c.args.w.0 (negsuc 0 -ℤ c.args.w.0)
 below c = let s : After-struct_told-1 = c.before in below_of s.args.w.0 (rw (w-read s) at c.if-x-lt0.true) (w_fits s)
 
 rest_read : (c : Then-x-lt0) → held (negsuc 0 -ℤ held c.args.w.0) ≡ negsuc 0 -ℤ c.args.w.0
-rest_read c = rw (w-read c.before) (to_z-of_z w64 (negsuc 0 -ℤ c.args.w.0) (below c).ranges)
+rest_read c = rw (w-read c.before) (to_z-of_z w64 (negsuc 0 -ℤ c.args.w.0) (below c).fits)
 
 pub overflow_sub-result : goal.overflow_sub-result
-overflow_sub-result c = rw (w-read (goal.at.overflow_sub-result c).After-struct_told-1) (below (goal.at.overflow_sub-result c).Then-x-lt0).ranges
+overflow_sub-result c = rw (w-read (goal.at.overflow_sub-result c).After-struct_told-1) (below (goal.at.overflow_sub-result c).Then-x-lt0).fits
 
 pub overflow_cast-result : goal.overflow_cast-result
 overflow_cast-result c = rw (rest_read (goal.at.overflow_cast-result c).Then-x-lt0) (below (goal.at.overflow_cast-result c).Then-x-lt0).cast
