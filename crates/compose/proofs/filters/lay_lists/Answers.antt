@@ -22,7 +22,7 @@ loop-k-preserved c =
     let y = c.lay_list-len in
     let part = y.new.list in
     let turn = laid_turn c.args.file.now c.args.fields.now (constraints_in c.args.file.now c.args.constraints.now) (length c.args.scratch.now) l.scratch l.lists l.at l.k l.invariant.0 c.loop-k-test.true (head_turn_lem (FieldIn c.args.file.now) c.args.fields.now l.k c.requires.1 l.invariant.0.first c.loop-k-test.true) (omega arith)
-        y.result part (drop n (drop l.at l.scratch)) y.ensures.count y.ensures.front (same_len_mid l.at n l.scratch part y.auto.list ∙ l.invariant.0.long)
+    y.result part (drop n (drop l.at l.scratch)) y.ensures.count y.ensures.front (same_len_mid l.at n l.scratch part y.auto.list ∙ l.invariant.0.long)
     in
     (turn, length-set (set l.lists (l.k - 1) l.at) (31 + l.k) y.result ∙ length-set l.lists (l.k - 1) l.at ∙ l.invariant.1)
 
