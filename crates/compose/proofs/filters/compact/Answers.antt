@@ -1,6 +1,5 @@
 -- `compose::filters::compact` meets its contract. The invariant: those of the first i values that meet the test stand in front.
 use mathlib.Core.Path.{◌∙◌, ◌≡◌, sym}
-use Prim.Native.Nat.{◌-◌}
 use native.Mathlib.Omega.{arith}
 use borrow.Author.Rules.{sfits_of}
 use lib.IntN.{pos}
@@ -61,7 +60,7 @@ loop-i-preserved c =
     let p = test_with c.args.code (held c.args.p) (held c.args.q) c.args.run.now in
     let e = l.invariant.long in
     elim c.if-meets.branch [
-      then-meets u ↦ rw (u.list-is, u.w-is, value (goal.at.loop-i-preserved c).After-x-1) (moved_kept p c.args.list.now l.list l.w l.i l.invariant (omega arith) (test (goal.at.loop-i-preserved c).After-meets ∙ u.if-meets.true))
+      | then-meets u ↦ rw (u.list-is, u.w-is, value (goal.at.loop-i-preserved c).After-x-1) (moved_kept p c.args.list.now l.list l.w l.i l.invariant (omega arith) (test (goal.at.loop-i-preserved c).After-meets ∙ u.if-meets.true))
       | else-meets u ↦ rw (u.list-is, u.w-is) (moved_past p c.args.list.now l.list l.w l.i l.invariant (omega arith) (test (goal.at.loop-i-preserved c).After-meets ∙ u.if-meets.false))
     ]
 

@@ -10,10 +10,9 @@ use lib.IntN.{pos, ℤ}
 use lib.ListN.{drop, get_or, length, length-drop, set, take}
 use lib.Seq.{get_or-drop, take_all}
 use mir.Syntax.{w64}
-use mir.Val.{of_z, to_z}
 use mir.ValLaws.{to_z-of_z}
 use Rattle.compose.proofs.Ascending.{ascending_drop}
-use Rattle.compose.proofs.Narrowing.{Moved, is_item, moved_count, moved_end, moved_kept, moved_none, moved_past, moved_read, rest_more}
+use Rattle.compose.proofs.Narrowing.{Moved, is_item, moved_kept, moved_none, moved_past, moved_read, rest_more}
 use Rattle.compose.specs.Code.{is_ascending}
 use Rattle.compose.specs.Walk.{least}
 use Rattle.compose.proofs.filters.compact_ascending.Goals as goal

@@ -1,6 +1,5 @@
 -- `compose::filters::compact_found` meets its contract. The invariant: those of the first i values that are among the items stand in front.
 use mathlib.Core.Path.{◌∙◌, ◌≡◌, sym}
-use Prim.Native.Nat.{◌-◌}
 use native.Mathlib.Omega.{arith}
 use borrow.Author.Rules.{sfits_of}
 use lib.IntN.{pos}
@@ -57,7 +56,7 @@ loop-i-preserved c =
     let p = is_item c.args.run.now in
     let e = l.invariant.long in
     elim c.if-finds_p.branch [
-      then-finds_p u ↦ rw (u.list-is, u.w-is, value (goal.at.loop-i-preserved c).After-x-1) (moved_kept p c.args.list.now l.list l.w l.i l.invariant (omega arith) (test (goal.at.loop-i-preserved c).After-finds_p ∙ u.if-finds_p.true))
+      | then-finds_p u ↦ rw (u.list-is, u.w-is, value (goal.at.loop-i-preserved c).After-x-1) (moved_kept p c.args.list.now l.list l.w l.i l.invariant (omega arith) (test (goal.at.loop-i-preserved c).After-finds_p ∙ u.if-finds_p.true))
       | else-finds_p u ↦ rw (u.list-is, u.w-is) (moved_past p c.args.list.now l.list l.w l.i l.invariant (omega arith) (test (goal.at.loop-i-preserved c).After-finds_p ∙ u.if-finds_p.false))
     ]
 

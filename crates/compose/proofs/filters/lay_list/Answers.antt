@@ -1,5 +1,5 @@
 -- `compose::filters::lay_list` meets its contract: the domain is laid, and narrowed.
-use mathlib.Core.List.{List, ◌++◌, foldl, map}
+use mathlib.Core.List.{List, foldl, map}
 use mathlib.Core.Path.{◌∙◌, ◌≡◌, ap, sym}
 use Prim.Native.Nat.{◌+◌, ◌-◌, ◌/◌, ◌≤◌, suc, ℕ}
 use native.Mathlib.Numerals.{add-one}
@@ -71,12 +71,12 @@ returns c =
     let n = c.narrow_all.ensures in
     let m = room h.result c.args.file.now c.part-values.result.now c.args.head c.args.end c.requires.0 h.ensures.read c.part-values.ensures.records len c.domain_len-len.ensures c.args.list.now c.requires.2 in
     let front =
-        take_at laid (drop len c.args.list.now) len (c.lay_domain.auto.list ∙ length-take-le len c.args.list.now m)
-        ∙ c.lay_domain.ensures
+    take_at laid (drop len c.args.list.now) len (c.lay_domain.auto.list ∙ length-take-le len c.args.list.now m)
+    ∙ c.lay_domain.ensures
     in
     let e =
-        ap (λ (z : List ℤ). foldl (narrow_by c.args.f) z cs) front
-        ∙ field_allowed h.result c.args.file.now c.part-values.result.now c.args.head c.args.end c.requires.0 h.ensures.read (values-are h.result c.args.file.now c.part-values.result.now c.args.head c.args.end c.requires.0 h.ensures.read c.part-values.ensures.records) cs c.args.f
+    ap (λ (z : List ℤ). foldl (narrow_by c.args.f) z cs) front
+    ∙ field_allowed h.result c.args.file.now c.part-values.result.now c.args.head c.args.end c.requires.0 h.ensures.read (values-are h.result c.args.file.now c.part-values.result.now c.args.head c.args.end c.requires.0 h.ensures.read c.part-values.ensures.records) cs c.args.f
     in
     let count = n.count ∙ ap length e in
     record { count = count; front = front_part c.narrow_all.result _ c.narrow_all.new.list _ count (n.front ∙ e) }

@@ -4,7 +4,6 @@ use mathlib.Core.List.{List, foldl}
 use mathlib.Core.Path.{◌∙◌, ◌≡◌, ap, sym}
 use Prim.Native.Nat.{◌+◌, ◌-◌, ℕ}
 use native.Mathlib.Numerals.{add-one}
-use lib.Dec.{eqb}
 use lib.IntN.{ℤ}
 use lib.ListN.{drop, length, take}
 use Rattle.lists.specs.Lists.{over}

@@ -21,7 +21,7 @@ loop-i-preserved c =
     let l = c.loop-i in
     let kind = kind_is c.args.file.now l.i c.code_at.result c.is_member.result c.code_at.ensures c.is_member.ensures in
     elim c.if-not-is_member.branch [
-      then-not-is_member u ↦ rw (u.at-is, u.count-is) (headed_head c.args.file.now c.args.at.now l.at l.count l.i l.invariant (omega arith) (kind ∙ u.if-not-is_member.true) c.requires)
+      | then-not-is_member u ↦ rw (u.at-is, u.count-is) (headed_head c.args.file.now c.args.at.now l.at l.count l.i l.invariant (omega arith) (kind ∙ u.if-not-is_member.true) c.requires)
       | else-not-is_member u ↦ rw (u.at-is, u.count-is) (headed_member c.args.file.now c.args.at.now l.at l.count l.i l.invariant (omega arith) (kind ∙ u.if-not-is_member.false))
     ]
 

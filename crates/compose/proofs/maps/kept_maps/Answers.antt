@@ -18,10 +18,10 @@ loop-k-preserved c =
     let l = c.loop-k in
     let code = c.code_at in
     let head : HeadIn c.args.file.now (get_or c.args.heads.now (l.k - 1) 0) (get_or c.args.heads.now l.k 0) c.args.n =
-        head_turn_lem (λ head end. HeadIn c.args.file.now head end c.args.n) c.args.heads.now l.k c.requires.1 l.invariant.first (omega arith)
+    head_turn_lem (λ head end. HeadIn c.args.file.now head end c.args.n) c.args.heads.now l.k c.requires.1 l.invariant.first (omega arith)
     in
     elim c.if-code_at-eq19.branch [
-      then-code_at-eq19 u ↦ rw u.maps-is (kept_cross c.args.file.now c.args.heads.now c.args.n l.maps l.k l.invariant (omega arith) c.requires.0 head u.a_at.result u.b_at-f.result u.a_at.ensures.0 u.b_at-f.ensures.0 (sym code.ensures ∙ u.if-code_at-eq19.true))
+      | then-code_at-eq19 u ↦ rw u.maps-is (kept_cross c.args.file.now c.args.heads.now c.args.n l.maps l.k l.invariant (omega arith) c.requires.0 head u.a_at.result u.b_at-f.result u.a_at.ensures.0 u.b_at-f.ensures.0 (sym code.ensures ∙ u.if-code_at-eq19.true))
       | else-code_at-eq19 u ↦ rw u.maps-is (kept_other c.args.file.now c.args.heads.now c.args.n l.maps l.k l.invariant (omega arith) (let e = code.ensures in omega arith) (λ e. u.if-code_at-eq19.false (code.ensures ∙ e)))
     ]
 

@@ -1,6 +1,5 @@
 -- `compose::sieve::lay_sieve` meets its contract. The invariant: the byte of each value before i is 1.
 use mathlib.Core.Path.{◌∙◌, ap, refl}
-use Prim.Native.Nat.{◌-◌}
 use native.Mathlib.Omega.{arith}
 use lib.ListN.{length-set}
 use Rattle.compose.specs.Code.{remainder_of}
