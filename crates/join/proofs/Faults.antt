@@ -210,19 +210,19 @@ all_unmoved (p ∷ ps) = ap₂ ◌∷◌ (unmoved p) (all_unmoved ps)
 
 module _ {file : List ℕ} {s : code.Shape} (u : Shaped file s) where
   fields_moved : (n : ℕ) → laid (map (move_bytes n) (section 0 file)) ≡ moved_range n file 0 s.constraints_at
-  fields_moved n = ap (λ (ps : List (List ℕ)). laid (map (move_bytes n) ps)) (u.ranges.fields-range ∙ ap (λ (k : ℕ). take k (parts_of file)) (sym (sub-zero s.constraints_at)))
+  fields_moved n = ap (λ (ps : List (List ℕ)). laid (map (move_bytes n) ps)) (u.ranges.fields_range ∙ ap (λ (k : ℕ). take k (parts_of file)) (sym (sub-zero s.constraints_at)))
 
   constraints_moved : (n : ℕ) → laid (map (move_bytes n) (section 1 file)) ≡ moved_range n file s.constraints_at s.projector_at
-  constraints_moved n = ap (λ (ps : List (List ℕ)). laid (map (move_bytes n) ps)) u.ranges.constraints-range
+  constraints_moved n = ap (λ (ps : List (List ℕ)). laid (map (move_bytes n) ps)) u.ranges.constraints_range
 
   many_fields : length (section 0 file) ≡ s.constraints_at
-  many_fields = let r = u.ranges.rising in let i = u.ranges.inside in ap length u.ranges.fields-range ∙ length-take-le s.constraints_at (parts_of file) (omega (arith, length_parts file))
+  many_fields = let r = u.ranges.rising in let i = u.ranges.inside in ap length u.ranges.fields_range ∙ length-take-le s.constraints_at (parts_of file) (omega (arith, length_parts file))
 
   many_constraints : length (section 1 file) ≡ s.projector_at - s.constraints_at
   many_constraints =
       let r = u.ranges.rising in
       let i = u.ranges.inside in
-      ap length u.ranges.constraints-range ∙ length-take-le (s.projector_at - s.constraints_at) (drop s.constraints_at (parts_of file)) (omega (arith, length_parts file, length-drop s.constraints_at (parts_of file)))
+      ap length u.ranges.constraints_range ∙ length-take-le (s.projector_at - s.constraints_at) (drop s.constraints_at (parts_of file)) (omega (arith, length_parts file, length-drop s.constraints_at (parts_of file)))
 
 module _ {f g : List ℕ} {s t : code.Shape} (u : Shaped f s) (v : Shaped g t) where
   pub join_ranges : join_bytes f g

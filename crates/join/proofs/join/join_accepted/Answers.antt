@@ -34,7 +34,7 @@ returns-then-code_at-ne30 c =
     let s = (goal.at.returns-then-code_at-ne30 c).Start in
     let u = first-shape s in
     let no : is_sum (decoded s.args.first.now).projector ≡ false = sum_no u c.code_at.result c.code_at.ensures (omega arith) in
-    let at : s.args.s.projector_at + 1 ≡ projector_at s.args.first.now = add-one s.args.s.projector_at ∙ sym u.ranges.projector-range in
+    let at : s.args.s.projector_at + 1 ≡ projector_at s.args.first.now = add-one s.args.s.projector_at ∙ sym u.ranges.projector_range in
     let fault = fault_sum_first (length s.args.out.now) s.args.first.now s.args.second.now s.requires.0 s.requires.1 no ∙ ap (λ (n : ℕ). some (refusal_of first 16 n)) (sym at) in
     let why = refusal_of first 16 (s.args.s.projector_at + 1) in
     record { answer = c.refuse.ensures ∙ answer-refused (length s.args.out.now) s.args.first.now s.args.second.now why fault; out = output_refused s.args.first.now s.args.second.now s.args.out.now why fault }
@@ -57,7 +57,7 @@ returns-then-code_at-ne30-2 c =
     let u = second-shape s in
     let yes = first-sum (goal.at.returns-then-code_at-ne30-2 c).Else-code_at-ne30 in
     let no : is_sum (decoded s.args.second.now).projector ≡ false = sum_no u c.code_at-2.result c.code_at-2.ensures (omega arith) in
-    let at : s.args.t.projector_at + 1 ≡ projector_at s.args.second.now = add-one s.args.t.projector_at ∙ sym u.ranges.projector-range in
+    let at : s.args.t.projector_at + 1 ≡ projector_at s.args.second.now = add-one s.args.t.projector_at ∙ sym u.ranges.projector_range in
     let fault = fault_sum_second (length s.args.out.now) s.args.first.now s.args.second.now s.requires.0 s.requires.1 yes no ∙ ap (λ (n : ℕ). some (refusal_of second 16 n)) (sym at) in
     let why = refusal_of second 16 (s.args.t.projector_at + 1) in
     record { answer = c.refuse-then-code_at-ne30-2.ensures ∙ answer-refused (length s.args.out.now) s.args.first.now s.args.second.now why fault; out = output_refused s.args.first.now s.args.second.now s.args.out.now why fault }

@@ -21,7 +21,7 @@ second-shape : (c : Start) → Shaped c.args.second.now c.args.t
 second-shape c = shaped c.args.second.now c.args.t c.requires.1 c.requires.3
 
 -- the places where records stand, and the length of the output
-record Placed (c : tie.Start) : Type 0 where
+record Placed (c : Start) : Type 0 where
   rising₁ : c.args.s.constraints_at ≤ c.args.s.projector_at
   rising₂ : c.args.t.constraints_at ≤ c.args.t.projector_at
   below₁ : c.args.s.projector_at < 2048
@@ -132,10 +132,10 @@ put_records-requires c =
 
 -- the output after the first part
 abbrev out₁ : After-slice_known-2-1 → List ℕ
-out₁ c = c.put_records.last.1.1.1.1.0 ++ drop (end₁ (s₂ c)) (s₂ c).args.out.now
+out₁ c = c.put_records.new.out ++ drop (end₁ (s₂ c)) (s₂ c).args.out.now
 
 done₁ : (c : After-slice_known-2-1) → (take (end₁ (s₂ c)) (out₁ c) ≡ part₁ (s₂ c)) × (length (out₁ c) ≡ length (s₂ c).args.out.now)
-done₁ c = let p = c.put_records in put_front (length (s₂ c).args.out.now) (s₂ c).args.out.now p.last.1.1.1.1.0 (part₁ (s₂ c)) refl p.ensures (end₁ (s₂ c)) (within₁ (s₂ c)) p.kept.1.1.1.1.0
+done₁ c = let p = c.put_records in put_front (length (s₂ c).args.out.now) (s₂ c).args.out.now p.new.out (part₁ (s₂ c)) refl p.ensures (end₁ (s₂ c)) (within₁ (s₂ c)) p.auto.out
 
 pub slice_bounds-put_records-end-3 : goal.slice_bounds-put_records-end-3
 slice_bounds-put_records-end-3 c = let l = (done₁ (goal.at.slice_bounds-put_records-end-3 c).After-slice_known-2-1).1 in let h = within₂ (s₂ (goal.at.slice_bounds-put_records-end-3 c).After-slice_known-2-1) in omega arith
@@ -149,13 +149,13 @@ put_records-requires-2 c =
 
 -- after the second
 abbrev out₂ : After-slice_known-3-1 → List ℕ
-out₂ c = put_mid (end₁ (s₃ c)) (end₂ (s₃ c) - end₁ (s₃ c)) (out₁ (record { before = c.before.before.before.before.before; type_inv = record { out = c.slice_known-2-1.given; second = c.shared_slice_known-2-1.given; first = c.shared_slice_known-1.given } })) c.put_records-2.last.1.1.1.1.0
+out₂ c = put_mid (end₁ (s₃ c)) (end₂ (s₃ c) - end₁ (s₃ c)) (out₁ (record { before = c.before.before.before.before.before; type_inv = record { out = c.slice_known-2-1.given; second = c.shared_slice_known-2-1.given; first = c.shared_slice_known-1.given } })) c.put_records-2.new.out
 
 done₂ : (c : After-slice_known-3-1) → (take (end₂ (s₃ c)) (out₂ c) ≡ part₁ (s₃ c) ++ part₂ (s₃ c)) × (length (out₂ c) ≡ length (s₃ c).args.out.now)
 done₂ c =
     let p = c.put_records-2 in
     let q = done₁ (record { before = c.before.before.before.before.before; type_inv = record { out = c.slice_known-2-1.given; second = c.shared_slice_known-2-1.given; first = c.shared_slice_known-1.given } }) in
-    put_behind (length (s₃ c).args.out.now) (out₁ (record { before = c.before.before.before.before.before; type_inv = record { out = c.slice_known-2-1.given; second = c.shared_slice_known-2-1.given; first = c.shared_slice_known-1.given } })) p.last.1.1.1.1.0 (part₂ (s₃ c)) q.1 p.ensures (end₁ (s₃ c)) ((s₃ c).args.t.constraints_at * 32) (part₁ (s₃ c)) q.0 (within₂ (s₃ c)) p.kept.1.1.1.1.0
+    put_behind (length (s₃ c).args.out.now) (out₁ (record { before = c.before.before.before.before.before; type_inv = record { out = c.slice_known-2-1.given; second = c.shared_slice_known-2-1.given; first = c.shared_slice_known-1.given } })) p.new.out (part₂ (s₃ c)) q.1 p.ensures (end₁ (s₃ c)) ((s₃ c).args.t.constraints_at * 32) (part₁ (s₃ c)) q.0 (within₂ (s₃ c)) p.auto.out
 
 pub slice_bounds-put_records-end-4 : goal.slice_bounds-put_records-end-4
 slice_bounds-put_records-end-4 c = let l = (done₂ (goal.at.slice_bounds-put_records-end-4 c).After-slice_known-3-1).1 in let h = within₃ (s₃ (goal.at.slice_bounds-put_records-end-4 c).After-slice_known-3-1) in omega arith
@@ -169,13 +169,13 @@ put_records-requires-3 c =
 
 -- after the third
 abbrev out₃ : After-slice_known-4-1 → List ℕ
-out₃ c = put_mid (end₂ (s₄ c)) (end₃ (s₄ c) - end₂ (s₄ c)) (out₂ (record { before = c.before.before.before.before.before; type_inv = record { out = c.slice_known-3-1.given; second = c.shared_slice_known-2-1.given; first = c.shared_slice_known-1.given } })) c.put_records-3.last.1.1.1.1.0
+out₃ c = put_mid (end₂ (s₄ c)) (end₃ (s₄ c) - end₂ (s₄ c)) (out₂ (record { before = c.before.before.before.before.before; type_inv = record { out = c.slice_known-3-1.given; second = c.shared_slice_known-2-1.given; first = c.shared_slice_known-1.given } })) c.put_records-3.new.out
 
 done₃ : (c : After-slice_known-4-1) → (take (end₃ (s₄ c)) (out₃ c) ≡ (part₁ (s₄ c) ++ part₂ (s₄ c)) ++ part₃ (s₄ c)) × (length (out₃ c) ≡ length (s₄ c).args.out.now)
 done₃ c =
     let p = c.put_records-3 in
     let q = done₂ (record { before = c.before.before.before.before.before; type_inv = record { out = c.slice_known-3-1.given; second = c.shared_slice_known-2-1.given; first = c.shared_slice_known-1.given } }) in
-    put_behind (length (s₄ c).args.out.now) (out₂ (record { before = c.before.before.before.before.before; type_inv = record { out = c.slice_known-3-1.given; second = c.shared_slice_known-2-1.given; first = c.shared_slice_known-1.given } })) p.last.1.1.1.1.0 (part₃ (s₄ c)) q.1 p.ensures (end₂ (s₄ c)) (((s₄ c).args.s.projector_at - (s₄ c).args.s.constraints_at) * 32) (part₁ (s₄ c) ++ part₂ (s₄ c)) q.0 (within₃ (s₄ c)) p.kept.1.1.1.1.0
+    put_behind (length (s₄ c).args.out.now) (out₂ (record { before = c.before.before.before.before.before; type_inv = record { out = c.slice_known-3-1.given; second = c.shared_slice_known-2-1.given; first = c.shared_slice_known-1.given } })) p.new.out (part₃ (s₄ c)) q.1 p.ensures (end₂ (s₄ c)) (((s₄ c).args.s.projector_at - (s₄ c).args.s.constraints_at) * 32) (part₁ (s₄ c) ++ part₂ (s₄ c)) q.0 (within₃ (s₄ c)) p.auto.out
 
 pub slice_bounds-put_records-end-5 : goal.slice_bounds-put_records-end-5
 slice_bounds-put_records-end-5 c = let l = (done₃ (goal.at.slice_bounds-put_records-end-5 c).After-slice_known-4-1).1 in let h = within₄ (s₄ (goal.at.slice_bounds-put_records-end-5 c).After-slice_known-4-1) in omega arith
@@ -189,14 +189,14 @@ put_records-requires-4 c =
 
 -- after the fourth
 abbrev out₄ : After-slice_known-5-1 → List ℕ
-out₄ c = put_mid (end₃ (s₅ c)) (end₄ (s₅ c) - end₃ (s₅ c)) (out₃ (record { before = c.before.before.before.before.before; type_inv = record { out = c.slice_known-4-1.given; second = c.shared_slice_known-2-1.given; first = c.shared_slice_known-1.given } })) c.put_records-4.last.1.1.1.1.0
+out₄ c = put_mid (end₃ (s₅ c)) (end₄ (s₅ c) - end₃ (s₅ c)) (out₃ (record { before = c.before.before.before.before.before; type_inv = record { out = c.slice_known-4-1.given; second = c.shared_slice_known-2-1.given; first = c.shared_slice_known-1.given } })) c.put_records-4.new.out
 
 done₄ : (c : After-slice_known-5-1) → (take (end₄ (s₅ c)) (out₄ c) ≡ ((part₁ (s₅ c) ++ part₂ (s₅ c)) ++ part₃ (s₅ c)) ++ part₄ (s₅ c)) × (length (out₄ c) ≡ length (s₅ c).args.out.now)
 done₄ c =
     let p = c.put_records-4 in
     let q = done₃ (record { before = c.before.before.before.before.before; type_inv = record { out = c.slice_known-4-1.given; second = c.shared_slice_known-2-1.given; first = c.shared_slice_known-1.given } }) in
     let h = within₄ (s₅ c) in
-    put_behind (length (s₅ c).args.out.now) (out₃ (record { before = c.before.before.before.before.before; type_inv = record { out = c.slice_known-4-1.given; second = c.shared_slice_known-2-1.given; first = c.shared_slice_known-1.given } })) p.last.1.1.1.1.0 (part₄ (s₅ c)) q.1 p.ensures (end₃ (s₅ c)) (((s₅ c).args.t.projector_at - (s₅ c).args.t.constraints_at) * 32) ((part₁ (s₅ c) ++ part₂ (s₅ c)) ++ part₃ (s₅ c)) q.0 (omega arith) p.kept.1.1.1.1.0
+    put_behind (length (s₅ c).args.out.now) (out₃ (record { before = c.before.before.before.before.before; type_inv = record { out = c.slice_known-4-1.given; second = c.shared_slice_known-2-1.given; first = c.shared_slice_known-1.given } })) p.new.out (part₄ (s₅ c)) q.1 p.ensures (end₃ (s₅ c)) (((s₅ c).args.t.projector_at - (s₅ c).args.t.constraints_at) * 32) ((part₁ (s₅ c) ++ part₂ (s₅ c)) ++ part₃ (s₅ c)) q.0 (omega arith) p.auto.out
 
 pub slice_bounds-put_sum-count : goal.slice_bounds-put_sum-count
 slice_bounds-put_sum-count c = let l = (done₄ (goal.at.slice_bounds-put_sum-count c).After-slice_known-5-1).1 in let h = within₄ (s₅ (goal.at.slice_bounds-put_sum-count c).After-slice_known-5-1) in omega arith
@@ -214,7 +214,7 @@ put_sum-requires c =
 pub shape_of-out : goal.shape_of-out
 shape_of-out c =
     let out = out₄ (goal.at.shape_of-out c).After-slice_known-5-1 in
-    same_len_mid (end₄ (s₆ (goal.at.shape_of-out c).After-slice_known-6-1)) (length out - end₄ (s₆ (goal.at.shape_of-out c).After-slice_known-6-1)) out c.put_sum.last.0 c.put_sum.kept.0 ∙ (done₄ (goal.at.shape_of-out c).After-slice_known-5-1).1
+    same_len_mid (end₄ (s₆ (goal.at.shape_of-out c).After-slice_known-6-1)) (length out - end₄ (s₆ (goal.at.shape_of-out c).After-slice_known-6-1)) out c.put_sum.new.out c.put_sum.auto.out ∙ (done₄ (goal.at.shape_of-out c).After-slice_known-5-1).1
 
 pub returns : goal.returns
 returns c =
@@ -226,6 +226,6 @@ returns c =
     let Y = part₂ s in
     let Z = part₃ s in
     let W = part₄ s in
-    put_last (length s.args.out.now) (out₄ (goal.at.returns c).After-slice_known-5-1) p.last.0 sum_bytes q.1 p.ensures (end₄ s) (((X ++ Y) ++ Z) ++ W) q.0 (omega arith) p.kept.0
+    put_last (length s.args.out.now) (out₄ (goal.at.returns c).After-slice_known-5-1) p.new.out sum_bytes q.1 p.ensures (end₄ s) (((X ++ Y) ++ Z) ++ W) q.0 (omega arith) p.auto.out
     ∙ append_assoc ((X ++ Y) ++ Z) W sum_bytes ∙ append_assoc (X ++ Y) Z (W ++ sum_bytes) ∙ append_assoc X Y (Z ++ (W ++ sum_bytes))
     ∙ sym (join_ranges (first-shape s) (second-shape s))
