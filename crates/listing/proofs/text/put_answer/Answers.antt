@@ -14,20 +14,18 @@ use Rattle.listing.proofs.text.put_answer.Goals as goal
 pub returns-in-Accepted : goal.returns-in-Accepted
 returns-in-Accepted c =
     let put = c.put_accepted in
-    let shape = c.judged-1.given in
     let args = c.args in
     let room : length args.text.now ≡ 64 = search rules in
-    let stands = put_first args.text.now put.new.out (accepted_line shape.0.0.total) put.result put.ensures.out_after put.ensures.value (omega (arith, put.ensures.upper_bound)) in
-    let same = ap (λ (v : Validation). answer_line (as_answer v)) (sym shape.1) in
+    let stands = put_first args.text.now put.new.out (accepted_line c.in-Accepted.shape.total) put.result put.ensures.out_after put.ensures.value (omega (arith, put.ensures.upper_bound)) in
+    let same = ap (λ (v : Validation). answer_line (as_answer v)) (sym c.in-Accepted.is) in
     record { prefix_len = stands.0; text_after = stands.1 ∙ same; text_after_2 = put.ensures.out_after ∙ ap (sets args.text.now 0) same }
 
 pub returns-in-Refused : goal.returns-in-Refused
 returns-in-Refused c =
-    let put = c.Put-refused in
-    let refusal = c.judged-in-Refused-1.given in
+    let put = c.put_refused in
     let args = c.args in
     let room : length args.text.now ≡ 64 = search rules in
-    let line = answer_line (as_answer (Refused refusal.0.0)) in
-    let stands = put_first args.text.now put.new.out line put.result put.ensures.0 put.ensures.1.0 (omega (arith, put.ensures.1.1)) in
-    let same = ap (λ (v : Validation). answer_line (as_answer v)) (sym refusal.1) in
-    record { prefix_len = stands.0; text_after = stands.1 ∙ same; text_after_2 = put.ensures.0 ∙ ap (sets args.text.now 0) same }
+    let line = answer_line (as_answer (Refused c.in-Refused.refusal)) in
+    let stands = put_first args.text.now put.new.out line put.result put.ensures.out_after put.ensures.value (omega (arith, put.ensures.upper_bound)) in
+    let same = ap (λ (v : Validation). answer_line (as_answer v)) (sym c.in-Refused.is) in
+    record { prefix_len = stands.0; text_after = stands.1 ∙ same; text_after_2 = put.ensures.out_after ∙ ap (sets args.text.now 0) same }

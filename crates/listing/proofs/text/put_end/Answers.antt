@@ -10,27 +10,23 @@ use Rattle.listing.proofs.text.put_end.Goals as goal
 pub returns-then-out-at : goal.returns-then-out-at
 returns-then-out-at c =
     let args = c.args in
-    let whole = rw (room_no args.out.now args.at 88 (omega arith)) (refl, refl) in record { out_after = whole.0; value = whole.1 }
+    rw (room_no args.out.now args.at 88 (omega arith)) (record { out_after = refl; value = refl })
 
 pub returns-then-out-at-lt88 : goal.returns-then-out-at-lt88
 returns-then-out-at-lt88 c =
     let args = c.args in
-    let whole = rw (room_no args.out.now args.at 88 (omega arith)) (refl, refl) in record { out_after = whole.0; value = whole.1 }
+    rw (room_no args.out.now args.at 88 (omega arith)) (record { out_after = refl; value = refl })
 
 pub returns : goal.returns
 unfolding end_line
 returns c =
     let byte = c.put_byte in
-        let fourth = c.put_spaced-end in
-    let thirds = (goal.at.returns c).After-put_spaced-failed in
-    let third = thirds.put_spaced-failed in
-    let seconds = thirds.before.before.before.before in
-    let second = seconds.put_spaced-passed in
-    let firsts = seconds.before.before.before.before in
-    let first = firsts.put_spaced-emitted in
-    let word = firsts.put_word-totals in
-    let room = firsts.before.before.before.before.before.before.before in
-    let args = room.args in
+    let fourth = c.put_spaced-end in
+    let third = c.put_spaced-failed in
+    let second = c.put_spaced-passed in
+    let first = c.put_spaced-emitted in
+    let word = c.put_word-totals in
+    let args = c.args in
     let total = spaced (decimal args.c.total) in
     let emitted = spaced (decimal args.c.emitted) in
     let passed = spaced (decimal args.c.passed) in
@@ -44,7 +40,4 @@ returns c =
     let emitted-long = length-append (decimal args.c.emitted) (passed ++ (failed ++ newline)) in
     let passed-long = length-append (decimal args.c.passed) (failed ++ newline) in
     let failed-long = length-append (decimal args.c.failed) newline in
-    let whole = rw (room_yes args.out.now args.at 88 (omega (arith, room.if-out-at.false, room.if-out-at-lt88.false))) (
-      put_after args.out.now word.new.out last args.at word.result end_word (total ++ (emitted ++ (passed ++ (failed ++ newline)))) word.ensures.out_after word.ensures.value from-total,
-      omega (arith, word.ensures.value, first.ensures.value, second.ensures.value, third.ensures.value, fourth.ensures.value, byte.ensures.value, total-long, emitted-long, passed-long, failed-long),
-    ) in record { out_after = whole.0; value = whole.1 }
+    rw (room_yes args.out.now args.at 88 (omega (arith, c.if-out-at.false, c.if-out-at-lt88.false))) (record { out_after = put_after args.out.now word.new.out last args.at word.result end_word (total ++ (emitted ++ (passed ++ (failed ++ newline)))) word.ensures.out_after word.ensures.value from-total; value = omega (arith, word.ensures.value, first.ensures.value, second.ensures.value, third.ensures.value, fourth.ensures.value, byte.ensures.value, total-long, emitted-long, passed-long, failed-long) })

@@ -84,7 +84,7 @@ loop-i-preserved c =
     let puts = rw (wide t) at c.put_line-next.ensures in
     let put = c.put_line-next in
     let next = (here.i + 1) * width t in
-    (omega arith, omega arith, omega (arith, puts.1.1, long t, here.invariant.2, add-mul here.i 1 (width t), one-mul (width t)), left_more (sets args.out.now 0 whole) (length whole) here.out put.new.out here.next put.result (line_of (take (width t) (left t))) (lines_of (args.count - (here.i + 1)) (width t) (drop next words)) (lines_of (args.count - here.i) (width t) (left t)) (lines_more args.count (width t) here.i words t.loop-i-test.true) puts.0 puts.1.0 here.invariant.3)
+    (omega arith, omega arith, omega (arith, puts.upper_bound, long t, here.invariant.2, add-mul here.i 1 (width t), one-mul (width t)), left_more (sets args.out.now 0 whole) (length whole) here.out put.new.out here.next put.result (line_of (take (width t) (left t))) (lines_of (args.count - (here.i + 1)) (width t) (drop next words)) (lines_of (args.count - here.i) (width t) (left t)) (lines_more args.count (width t) here.i words t.loop-i-test.true) puts.out_after puts.value here.invariant.3)
 
 pub shape_of-out : goal.shape_of-out
 shape_of-out c = c.loop-i.invariant.1

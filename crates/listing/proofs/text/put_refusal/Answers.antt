@@ -7,15 +7,15 @@ use Rattle.listing.proofs.text.put_refusal.Goals as goal
 pub returns-then-out-at : goal.returns-then-out-at
 returns-then-out-at c =
     let args = c.args in
-    let whole = rw (room_no args.out.now args.at 50 (omega arith)) (refl, refl) in record { out_after = whole.0; value = whole.1 }
+    rw (room_no args.out.now args.at 50 (omega arith)) (record { out_after = refl; value = refl })
 
 pub returns-then-out-at-lt50 : goal.returns-then-out-at-lt50
 returns-then-out-at-lt50 c =
     let args = c.args in
-    let whole = rw (room_no args.out.now args.at 50 (omega arith)) (refl, refl) in record { out_after = whole.0; value = whole.1 }
+    rw (room_no args.out.now args.at 50 (omega arith)) (record { out_after = refl; value = refl })
 
 pub returns : goal.returns
 returns c =
-    let put = c.Put-refused in
+    let put = c.put_refused in
     let args = c.args in
-    let whole = rw (room_yes args.out.now args.at 50 (omega arith)) (put.ensures.0, put.ensures.1.0) in record { out_after = whole.0; value = whole.1 }
+    rw (room_yes args.out.now args.at 50 (omega arith)) (record { out_after = put.ensures.out_after; value = put.ensures.value })

@@ -15,6 +15,6 @@ returns c =
     let word = c.put_word-numbers in
     let args = c.args in
     let number = spaced (decimal args.number) in
-    let place = spaced (decimal args.record-number) in
+    let place = spaced (decimal args.record_number) in
     let tail = put_after first.new.out second.new.out byte.new.out first.result second.result place newline second.ensures.out_after second.ensures.value byte.ensures.out_after in
-    let numbers = put_after word.new.out first.new.out byte.new.out word.result first.result number (place ++ newline) first.ensures.out_after first.ensures.value tail in record { out_after = put_after args.out.now word.new.out byte.new.out args.at word.result refused_word (number ++ (place ++ newline)) word.ensures.out_after word.ensures.value numbers; value = omega (arith, word.ensures.value, first.ensures.value, second.ensures.value, byte.ensures.value, length-append (decimal args.number) (place ++ newline), length-append (decimal args.record-number) newline); upper_bound = omega (arith, word.ensures.value, first.ensures.upper_bound, second.ensures.upper_bound, byte.ensures.value) }
+    let numbers = put_after word.new.out first.new.out byte.new.out word.result first.result number (place ++ newline) first.ensures.out_after first.ensures.value tail in record { out_after = put_after args.out.now word.new.out byte.new.out args.at word.result refused_word (number ++ (place ++ newline)) word.ensures.out_after word.ensures.value numbers; value = omega (arith, word.ensures.value, first.ensures.value, second.ensures.value, byte.ensures.value, length-append (decimal args.number) (place ++ newline), length-append (decimal args.record_number) newline); upper_bound = omega (arith, word.ensures.value, first.ensures.upper_bound, second.ensures.upper_bound, byte.ensures.value) }

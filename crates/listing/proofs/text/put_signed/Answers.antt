@@ -25,7 +25,7 @@ below : (c : Then-number-lt0) → Below c.args.number (negsuc 0 -ℤ c.args.numb
 below c = let s : Start = c.before.before.before in below_of s.args.number (rw (number_read s) at c.if-number-lt0.true) s.ranges.number
 
 rest_read : (c : Then-number-lt0) → held (negsuc 0 -ℤ held c.args.number) ≡ negsuc 0 -ℤ c.args.number
-rest_read c = let s : Start = c.before.before.before in rw (number_read s) (to_z-of_z w64 (negsuc 0 -ℤ s.args.number) (below c).ranges)
+rest_read c = let s : Start = c.before.before.before in rw (number_read s) (to_z-of_z w64 (negsuc 0 -ℤ s.args.number) (below c).fits)
 
 -- the digits after the sign
 abbrev digits : Then-number-lt0 → ℕ
@@ -35,7 +35,7 @@ short : (c : Then-number-lt0) → length (decimal (digits c)) ≤ 19
 short c = decimal_short (digits c) 18 (omega (arith, (below c).small))
 
 pub overflow_sub-number : goal.overflow_sub-number
-overflow_sub-number c = let t = (goal.at.overflow_sub-number c).Then-number-lt0 in rw (number_read (goal.at.overflow_sub-number c).Start) (below t).ranges
+overflow_sub-number c = let t = (goal.at.overflow_sub-number c).Then-number-lt0 in rw (number_read (goal.at.overflow_sub-number c).Start) (below t).fits
 
 pub overflow_cast-number : goal.overflow_cast-number
 overflow_cast-number c = let t = (goal.at.overflow_cast-number c).Then-number-lt0 in rw (rest_read t) (below t).cast
@@ -53,7 +53,7 @@ returns-then-number-lt0 c =
     let byte = c.put_byte-next in
     let number = rw (rest_read t) at c.put_number.ensures in
     let text = below_text args.number (negsuc 0 -ℤ args.number) (below t) in
-    let long = ap (λ (l : List ℕ). length l) text in record { out_after = put_after args.out.now byte.new.out c.put_number.new.out args.at byte.result (45 ∷ []) (decimal (digits t)) byte.ensures.out_after byte.ensures.value number.0 ∙ ap (λ (l : List ℕ). sets args.out.now args.at l) (sym text); value = omega (arith, byte.ensures.value, number.1.0, long); upper_bound = omega (arith, byte.ensures.value, number.1.0, short t) }
+    let long = ap (λ (l : List ℕ). length l) text in record { out_after = put_after args.out.now byte.new.out c.put_number.new.out args.at byte.result (45 ∷ []) (decimal (digits t)) byte.ensures.out_after byte.ensures.value number.out_after ∙ ap (λ (l : List ℕ). sets args.out.now args.at l) (sym text); value = omega (arith, byte.ensures.value, number.value, long); upper_bound = omega (arith, byte.ensures.value, number.value, short t) }
 
 natural : (c : Else-number-lt0) → Natural c.args.number
 natural c = let s : Start = c.before.before.before in natural_of s.args.number (rw (number_read s) at c.if-number-lt0.false) s.ranges.number
@@ -73,4 +73,4 @@ returns c =
     let args = t.args in
     let number = rw (number_read (goal.at.returns c).Start) at c.put_number-2.ensures in
     let text = natural_text args.number (natural t) in
-    let long = ap (λ (l : List ℕ). length l) text in record { out_after = number.0 ∙ ap (λ (l : List ℕ). sets args.out.now args.at l) (sym text); value = omega (arith, number.1.0, long); upper_bound = number.1.1 }
+    let long = ap (λ (l : List ℕ). length l) text in record { out_after = number.out_after ∙ ap (λ (l : List ℕ). sets args.out.now args.at l) (sym text); value = omega (arith, number.value, long); upper_bound = number.upper_bound }

@@ -25,7 +25,7 @@ loop-i-preserved c =
     let number = get_or numbers here.i (pos 0) in
     let piece = spaced (signed_decimal number) in
     let puts = rw (to_z-of_z w64 number (sfits_of c.put_value-arg-in-loop-i-1.given)) at put.ensures in
-    (omega arith, omega arith, omega (arith, puts.1.1), left_more (sets args.out.now args.at (values_text numbers)) (args.at + length (values_text numbers)) here.out put.new.out here.next put.result piece (values_text (drop (here.i + 1) numbers)) (values_text (drop here.i numbers)) (pieces_more (λ x. spaced (signed_decimal x)) numbers here.i (pos 0) (omega arith)) puts.0 puts.1.0 here.invariant.3)
+    (omega arith, omega arith, omega (arith, puts.upper_bound), left_more (sets args.out.now args.at (values_text numbers)) (args.at + length (values_text numbers)) here.out put.new.out here.next put.result piece (values_text (drop (here.i + 1) numbers)) (values_text (drop here.i numbers)) (pieces_more (λ x. spaced (signed_decimal x)) numbers here.i (pos 0) (omega arith)) puts.out_after puts.value here.invariant.3)
 
 pub shape_of-out : goal.shape_of-out
 shape_of-out c = c.loop-i.invariant.1

@@ -14,13 +14,13 @@ use Rattle.listing.proofs.text.put_verdicts.Goals as goal
 pub returns-then-width-lt4 : goal.returns-then-width-lt4
 returns-then-width-lt4 c =
     let args = c.args in
-    let whole = rw (not_listed args.out.now args.words.now args.count args.width (inl (omega (arith, c.if-width-lt4.true)))) (refl, (refl, omega arith)) in record { out_after = whole.0; value = whole.1.0; upper_bound = whole.1.1 }
+    rw (not_listed args.out.now args.words.now args.count args.width (inl (omega (arith, c.if-width-lt4.true)))) (record { out_after = refl; value = refl; upper_bound = omega arith })
 
 pub returns-then-words-width : goal.returns-then-words-width
 returns-then-words-width c =
     let args = c.args in
     let few = lines_over args.count args.width (length args.words.now) (omega (arith, c.if-width-lt4.false)) c.if-words-width.true in
-    let whole = rw (not_listed args.out.now args.words.now args.count args.width (inr (inl few))) (refl, (refl, omega arith)) in record { out_after = whole.0; value = whole.1.0; upper_bound = whole.1.1 }
+    rw (not_listed args.out.now args.words.now args.count args.width (inr (inl few))) (record { out_after = refl; value = refl; upper_bound = omega arith })
 
 -- there are as many words
 many : (c : Else-words-width) → c.args.count * c.args.width ≤ length c.args.words.now
@@ -32,7 +32,7 @@ overflow_mul-count c = let h = many (goal.at.overflow_mul-count c).Else-words-wi
 pub returns-then-out-count : goal.returns-then-out-count
 returns-then-out-count c =
     let args = c.args in
-    let whole = rw (not_listed args.out.now args.words.now args.count args.width (inr (inr (omega (arith, c.if-out-count.true))))) (refl, (refl, omega arith)) in record { out_after = whole.0; value = whole.1.0; upper_bound = whole.1.1 }
+    rw (not_listed args.out.now args.words.now args.count args.width (inr (inr (omega (arith, c.if-out-count.true))))) (record { out_after = refl; value = refl; upper_bound = omega arith })
 
 can : (c : Else-out-count) → let args = c.args in can_list args.out.now args.words.now args.count args.width ≡ true
 can c =
@@ -45,4 +45,4 @@ put_lines-requires c = can (goal.at.put_lines-requires c).Else-out-count
 pub returns : goal.returns
 returns c =
     let put = c.put_lines in
-    let whole = rw (can (goal.at.returns c).Else-out-count) (put.ensures.out_after, (omega (arith, put.ensures.value), put.ensures.upper_bound)) in record { out_after = whole.0; value = whole.1.0; upper_bound = whole.1.1 }
+    rw (can (goal.at.returns c).Else-out-count) (record { out_after = put.ensures.out_after; value = omega (arith, put.ensures.value); upper_bound = put.ensures.upper_bound })
