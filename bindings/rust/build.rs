@@ -17,7 +17,7 @@ fn main() {
     println!("cargo:rerun-if-changed={}", library.display());
     if !library.is_file() {
         eprintln!(
-            "{} is not there: run `rt staticlib exports` in the repository, \
+            "{} is not there: run `tools/build exports` in the repository, \
              or set RULES_LIB_DIR to the directory that has libexports.a",
             library.display()
         );
