@@ -8,7 +8,7 @@ use native.Mathlib.Omega.{arith}
 use lib.Dec.{leb}
 use lib.ListN.{drop, get_or, length, length-append, set, take, drop_of_length-le}
 use lib.Seq.{drop-cons, length-sets, sets, sets-eq, take-append_seam}
-use Rattle.io.specs.Counts.{IsPrefixLen}
+use Rattle.listing.specs.Counts.{IsPrefixLen}
 use Rattle.lists.specs.Lists.{concat_map}
 use Rattle.lists.proofs.Tests.{and-false, and-join, leb_no, leb_yes}
 use Rattle.listing.specs.Words.{has_room}

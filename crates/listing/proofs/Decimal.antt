@@ -1,15 +1,16 @@
--- A printed number reads back as itself, and is what the kit's io makes of it.
-use mathlib.Core.Bool.{Bool, cond, false, true}
+-- A printed number reads back as itself, and is what std prints for it.
+use mathlib.Core.Bool.{Bool, false, true}
 use mathlib.Core.List.{List, [], ◌++◌, ◌∷◌, foldl, foldl-append}
-use mathlib.Core.Path.{◌∙◌, ◌≡◌, ap, refl, subst}
+use mathlib.Core.Path.{◌∙◌, ◌≡◌, ap, refl}
 use Prim.Native.Nat.{◌%◌, ◌*◌, ◌+◌, ◌-◌, ◌/◌, ◌<◌, ◌^◌, ◌≤◌, suc, zero, ℕ}
 use native.Mathlib.Nat.{pow-suc, pow-zero}
 use native.Mathlib.Omega.{arith}
 use lib.Dec.{ltb}
 use lib.ListN.{length, length-append}
 use Rattle.lists.proofs.All.{All, All_append, []ᴬ, ◌∷ᴬ◌}
-use Rattle.lists.proofs.Tests.{ltb_yes, no_ge, yes_lt}
-use Rattle.io.specs.Digits.{IsDigitCount, last_digits, hex_digit_ascii}
+use Rattle.lists.proofs.Tests.{no_ge, yes_lt}
+use Rattle.std.specs.Fmt as std-text
+use Rattle.std.proofs.lemmas.Fmt.{decimal_digit, decimal_step}
 use Rattle.listing.specs.Text.{decimal, digits_of}
 
 -- the number that digits stand for, most significant first
@@ -45,51 +46,18 @@ pub decimal-digits : (n : ℕ) → All Digit (decimal n)
 unfolding decimal
 decimal-digits n = digits-digits (suc n) n (ltb n 10) refl
 
--- ---- the kit's digits
-pow_ten_pos : (k : ℕ) → 0 < 10 ^ k
-pow_ten_pos zero = let e = pow-zero 10 in omega arith
-pow_ten_pos (suc k) = let e = pow-suc 10 k in let h = pow_ten_pos k in omega arith
-
-glyph_digit : (d : ℕ) → d < 10 → hex_digit_ascii d ≡ 48 + d
-glyph_digit d h = ap (λ (b : Bool). cond b (48 + d) (87 + d)) (ltb_yes d 10 h)
-
-least_of : (j n : ℕ) → IsDigitCount 10 1 n (suc (suc j)) → 10 ^ suc j ≤ n
-least_of j n (some-digit, above, below) = let less : suc (suc j) - 1 ≡ suc j = omega arith in subst (λ (m : ℕ). 10 ^ m ≤ n) less (below (omega arith))
-
--- A digit fewer for a tenth of the number.
-tenth : (j n : ℕ) → IsDigitCount 10 1 n (suc (suc j)) → IsDigitCount 10 1 (n / 10) (suc j)
-tenth j n f =
-    let step = pow-suc 10 (suc j) in
-    let step' = pow-suc 10 j in
-    let least = least_of j n f in
-    let less : j ≡ suc j - 1 = omega arith in
-    let at_most : 10 ^ j ≤ n / 10 = omega arith in
-    (omega arith, omega (arith, f.1), λ more. subst (λ (m : ℕ). 10 ^ m ≤ n / 10) less at_most)
-
-fewest_digits : (fuel k n : ℕ) (last : Bool) → ltb n 10 ≡ last → n < fuel → IsDigitCount 10 1 n k → last_digits 10 k n ≡ digits_of fuel last n
-fewest_digits zero k n last e h f = absurd (omega arith)
-fewest_digits (suc fuel) zero n last e h (some-digit, above, below) = absurd (omega arith)
-fewest_digits (suc fuel) (suc zero) n true e h f =
-    let small = yes_lt n 10 e in
-    let same : n % 10 ≡ n = omega arith in
-    ap (λ (d : ℕ). hex_digit_ascii d ∷ []) same ∙ ap (λ (d : ℕ). d ∷ []) (glyph_digit n small)
-fewest_digits (suc fuel) (suc zero) n false e h (some-digit, above, below) =
-    let large = no_ge n 10 e in let one = pow-suc 10 0 in let none = pow-zero 10 in absurd (omega arith)
-fewest_digits (suc fuel) (suc (suc j)) n true e h f =
-    let small = yes_lt n 10 e in
-    let step = pow-suc 10 j in
-    let positive = pow_ten_pos j in
-    let least = least_of j n f in
-    absurd (omega arith)
-fewest_digits (suc fuel) (suc (suc j)) n false e h f =
+-- ---- what std prints
+std_digits : (fuel n : ℕ) (last : Bool) → ltb n 10 ≡ last → n < fuel → n < 2 ^ 64 → std-text.decimal n ≡ digits_of fuel last n
+std_digits zero n last e h small = absurd (omega arith)
+std_digits (suc fuel) n true e h small = decimal_digit n (yes_lt n 10 e)
+std_digits (suc fuel) n false e h small =
     let large = no_ge n 10 e in
-    ap (λ (l : List ℕ). l ++ (hex_digit_ascii (n % 10) ∷ [])) (fewest_digits fuel (suc j) (n / 10) (ltb (n / 10) 10) refl (omega arith) (tenth j n f))
-    ∙ ap (λ (d : ℕ). digits_of fuel (ltb (n / 10) 10) (n / 10) ++ (d ∷ [])) (glyph_digit (n % 10) (omega arith))
+    decimal_step n large small ∙ ap (λ (l : List ℕ). l ++ ((48 + n % 10) ∷ [])) (std_digits fuel (n / 10) (ltb (n / 10) 10) refl (omega arith) (omega arith))
 
--- The fewest digits of the kit's io are the decimal text.
-pub fewest_decimal : (k n : ℕ) → IsDigitCount 10 1 n k → last_digits 10 k n ≡ decimal n
+-- What std prints for a number of 64 bits is the decimal text.
+pub std_decimal : (n : ℕ) → n < 2 ^ 64 → std-text.decimal n ≡ decimal n
 unfolding decimal
-fewest_decimal k n f = fewest_digits (suc n) k n (ltb n 10) refl (omega arith) f
+std_decimal n small = std_digits (suc n) n (ltb n 10) refl (omega arith) small
 
 -- A number below 10^k has at most k digits.
 digits_short : (fuel n k : ℕ) (last : Bool) → ltb n 10 ≡ last → n < 10 ^ suc k → length (digits_of fuel last n) ≤ suc k

@@ -1,15 +1,16 @@
 // Text put into a lent buffer from `at` on. Each call gives the place after what it put there.
 ghost use Rattle.std.specs.Prelude.{◌≡◌, true, [], ◌∷◌, ◌+◌, ◌≤◌, pos, length, take};
 ghost use Rattle.std.proofs.lemmas.List.Edits.{sets};
-ghost use Rattle.io.specs.Counts as io-counts;
 ghost use Rattle.spec.specs.Code.{as_answer};
 ghost use Rattle.lists.specs.Lists.{concat_map};
 ghost use Rattle.lists.specs.Integers.{eq_z};
 ghost use Rattle.classifier.specs.Code.{as_counts};
+ghost use Rattle.listing.specs.Counts.{IsPrefixLen};
 ghost use Rattle.listing.specs.Text.{decimal, signed_decimal, spaced, refusal, refused_line, end_line, accepted_line, answer_line};
 ghost use Rattle.listing.specs.Words.{after_if, bytes_for, can_list, has_room, line_of, lines_of, projection_if, put_if};
 
 use classifier::count::Counts;
+use itoa::Buffer;
 use spec::refusal::Refusal;
 use spec::validate::Validation;
 
@@ -42,9 +43,8 @@ fn put_number(out: &mut [u8], at: usize, number: u64) -> usize
     ensures value { result ≡ at + length (decimal number) }
     ensures upper_bound { result ≤ at + 20 }
 {
-    let mut digits = [0u8; 20];
-    let n = io::decimal(number, &mut digits);
-    put_word(out, at, &digits[..n])
+    let mut digits = Buffer::new();
+    put_word(out, at, digits.format(number).as_bytes())
 }
 
 // A space, then the number.
@@ -223,7 +223,7 @@ pub fn put_refusal(out: &mut [u8], at: usize, r: Refusal) -> usize
 
 // The line for what `validate` answered, at the start of `text`; how many bytes.
 pub fn put_answer(text: &mut [u8; 64], judged: Validation) -> usize
-    ensures prefix_len { io-counts.IsPrefixLen result text.new }
+    ensures prefix_len { IsPrefixLen result text.new }
     ensures text_after { take result text.new ≡ answer_line (as_answer judged) }
     ensures text_after_2 { text.new ≡ sets text.old 0 (answer_line (as_answer judged)) }
 {

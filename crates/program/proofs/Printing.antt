@@ -13,7 +13,7 @@ use Rattle.classifier.specs.Code.{as_page}
 use Rattle.classifier.specs.declared.page.Answer as code
 use Rattle.spec.specs.declared.refusal.Refusal as code'
 use Rattle.classifier.specs.declared.page.Answer.TheVariants as answers
-use Rattle.io.specs.Counts.{IsPrefixLen}
+use Rattle.listing.specs.Counts.{IsPrefixLen}
 use Rattle.lists.specs.Lists.{concat_map, eq_list}
 use Rattle.lists.proofs.All.{All, All-filter, All_imp, All-mapped, []ᴬ, ◌∷ᴬ◌}
 use Rattle.spec.specs.Record.{decoded}

@@ -1,19 +1,20 @@
-// An engine's program: from standard input to the listing on standard output.
+// An engine's program: from a rules file to its listing.
 ghost use Rattle.std.specs.Prelude.{◌≡◌, ◌*◌, ◌≤◌, length, take};
-ghost use Rattle.io.specs.Counts.{IsPrefixLen};
 ghost use Rattle.compose.specs.Code.{as_engine};
 ghost use Rattle.classifier.specs.Count.{count_answer};
 ghost use Rattle.classifier.specs.Page.{page_answer};
 ghost use Rattle.classifier.specs.Code.{as_start, last_by};
+ghost use Rattle.listing.specs.Counts.{IsPrefixLen};
 ghost use Rattle.program.specs.Printed.{fields_or, is_more, last_line, page_lines};
 
 use crate::{ROOM, read_input};
 use classifier::count::{Counted, count};
 use classifier::page::{Answer, Start, page};
 use compose::force::Engine;
-use libc::STDOUT_FILENO;
 use listing::text::{put_end, put_refusal, put_verdicts};
 use spec::validate::{Validation, validate};
+use std::io;
+use std::io::{Read, Write};
 
 // The scratch that each engine's program lends.
 const SCRATCH: usize = 4096;
@@ -87,35 +88,39 @@ fn page_text(
     }
 }
 
-// Prints the verdicts, page by page. A proved loop has to end: the turns count down from a number that no run uses up.
-fn print_verdicts(engine: Engine, file: &[u8], scratch: &mut [i64]) {
+// Writes the lines of the verdicts, page by page. A proved loop has to end: the turns count up to a number that no run uses up.
+fn print_verdicts<W: Write>(
+    engine: Engine,
+    file: &[u8],
+    scratch: &mut [i64],
+    output: &mut W,
+) -> io::Result<()> {
     let mut words = [0i64; WORDS];
     let mut text = [0u8; TEXT];
     let mut start = Start {
         given: false,
         tuple: [0usize; 32],
     };
-    let mut turns = u64::MAX;
-    while turns > 0 {
+    for _ in 0..u64::MAX {
         let p = page_text(engine, file, scratch, &mut words, &mut text, start);
         let len = p.len;
-        io::write_all(STDOUT_FILENO, &text[..len]);
+        output.write_all(&text[..len])?;
         if !p.more {
-            return;
+            break;
         }
         let tuple = p.last;
         start = Start { given: true, tuple };
-        turns -= 1;
     }
+    Ok(())
 }
 
-// Lists the rules file on standard input.
-pub fn list(engine: Engine) {
+// Lists the rules file that the input holds.
+pub fn list<R: Read, W: Write>(engine: Engine, input: &mut R, output: &mut W) -> io::Result<()> {
     let mut file = [0u8; ROOM];
-    let n = read_input(&mut file);
+    let n = read_input(input, &mut file)?;
     let mut scratch = [0i64; SCRATCH];
-    print_verdicts(engine, &file[..n], &mut scratch);
+    print_verdicts(engine, &file[..n], &mut scratch, output)?;
     let mut text = [0u8; 96];
     let len = last_text(engine, &file[..n], &mut scratch, &mut text);
-    io::write_all(STDOUT_FILENO, &text[..len]);
+    output.write_all(&text[..len])
 }

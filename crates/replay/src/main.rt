@@ -1,14 +1,16 @@
 // Lists each rules file that an argument names, under both engines, as the stored answers of the original have it. The original knows no places: 0 is printed for each.
 #![tactic(auto)]
+
 ghost use Rattle.std.specs.Prelude.{◌≤◌};
-ghost use Rattle.io.specs.Counts.{IsPrefixLen};
+ghost use Rattle.listing.specs.Counts.{IsPrefixLen};
 
 use classifier::page::{Answer, Start, page};
 use compose::force::Engine;
-use libc::STDOUT_FILENO;
 use listing::text::put_verdicts;
-use program::ROOM;
 use program::list::{fields_of, last_text};
+use program::{ROOM, read_file};
+use std::rt::Files;
+use std::{env, io};
 
 // A stored file has at most 60 rows and 32 fields: one page.
 const WORDS: usize = 4096;
@@ -52,45 +54,31 @@ fn rows_text(
     }
 }
 
-fn print_listing(engine: Engine, file: &[u8]) {
+fn print_listing(rt: &impl Print, engine: Engine, file: &[u8]) -> io::Result<()> {
     let mut scratch = [0i64; 4096];
     let mut words = [0i64; WORDS];
     let mut text = [0u8; TEXT];
     let n = rows_text(engine, file, &mut scratch, &mut words, &mut text);
-    io::write_all(STDOUT_FILENO, &text[..n]);
+    rt.write_all(&text[..n])?;
     let mut last = [0u8; 96];
     let m = last_text(engine, file, &mut scratch, &mut last);
-    io::write_all(STDOUT_FILENO, &last[..m]);
+    rt.write_all(&last[..m])
 }
 
-fn replay_file(name: &[u8]) {
-    let fd = os::open_read(name);
-    if fd < 0 {
-        os::fail(name);
-        return;
-    }
+fn replay_file<R: Files + Print + Eprint>(rt: &R, name: &str) -> io::Result<()> {
     let mut file = [0u8; ROOM];
-    let n = io::read_full(fd, &mut file);
-    libc::close(fd);
-    io::write_all(STDOUT_FILENO, b"file ");
-    io::write_all(STDOUT_FILENO, name);
-    io::write_all(STDOUT_FILENO, b"\nstructural\n");
-    print_listing(Engine::Structural, &file[..n]);
-    io::write_all(STDOUT_FILENO, b"exhaustive\n");
-    print_listing(Engine::Exhaustive, &file[..n]);
-}
-
-fn replay_argument(i: usize) {
-    let mut name = io::buffer();
-    let len = os::arg(i, &mut name);
-    replay_file(&name[..len]);
-}
-
-fn main() {
-    let count = os::arg_count();
-    let mut i = 1;
-    while i < count {
-        replay_argument(i);
-        i += 1;
+    if let Some(n) = read_file(rt, name, &mut file)? {
+        print!(rt; "file {name}\nstructural\n")?;
+        print_listing(rt, Engine::Structural, &file[..n])?;
+        print!(rt; "exhaustive\n")?;
+        print_listing(rt, Engine::Exhaustive, &file[..n])?;
     }
+    Ok(())
+}
+
+fn main(rt: HostRuntime) -> io::Result<()> {
+    for name in env::args(&rt)?.skip(1) {
+        replay_file(&rt, name.as_str())?;
+    }
+    Ok(())
 }

@@ -1,8 +1,10 @@
 // Lists the rules file on standard input with the structural engine: a line for each verdict, then the counts; or the refusal.
 #![tactic(auto)]
+
 use compose::force::Engine;
 use program::list::list;
+use std::io;
 
-fn main() {
-    list(Engine::Structural);
+fn main(rt: HostRuntime) -> io::Result<()> {
+    list(Engine::Structural, &mut rt.stdin(), &mut rt.stdout())
 }
