@@ -14,16 +14,14 @@ pub returns-in-Refused : goal.returns-in-Refused
 returns-in-Refused c =
     let a = c.args in
     let count = c.count in
-    let told = c.r-1.given in
     let put = c.put_four in
-    let is = answered (answer_words 4 count_words) (refused (record { number = told.0.0.number; at = told.0.0.record })) (count_answer (as_engine a.engine) (length a.scratch.now) a.file.now) true refl (ap as_counted (sym told.1) ∙ count.ensures.answer) put.new.words a.words.now put.ensures in
+    let is = answered (answer_words 4 count_words) (refused (record { number = c.in-Refused.r.number; at = c.in-Refused.r.record })) (count_answer (as_engine a.engine) (length a.scratch.now) a.file.now) true refl (ap as_counted (sym c.in-Refused.is) ∙ count.ensures.answer) put.new.words a.words.now put.ensures in
     record { status = is.0; words = is.1; scratch = count.ensures.scratch }
 
 pub returns-in-Counted : goal.returns-in-Counted
 returns-in-Counted c =
     let a = c.args in
     let count = c.count in
-    let told = c.c-1.given in
     let put = c.put_four-in-Counted in
-    let is = answered (answer_words 4 count_words) (accepted (as_counts told.0.0)) (count_answer (as_engine a.engine) (length a.scratch.now) a.file.now) true refl (ap as_counted (sym told.1) ∙ count.ensures.answer) put.new.words a.words.now put.ensures in
+    let is = answered (answer_words 4 count_words) (accepted (as_counts c.in-Counted.c)) (count_answer (as_engine a.engine) (length a.scratch.now) a.file.now) true refl (ap as_counted (sym c.in-Counted.is) ∙ count.ensures.answer) put.new.words a.words.now put.ensures in
     record { status = is.0; words = is.1; scratch = count.ensures.scratch }

@@ -18,18 +18,16 @@ pub returns-in-Refused : goal.returns-in-Refused
 returns-in-Refused c =
     let a = c.args in
     let page = c.page-paged in
-    let told = c.answer-1.given in
     let put = c.put_page in
-    let is = ap (λ (v : code.Answer). as_page v page.result.last) (sym told.1) ∙ page.ensures.answer in
-    let given = answered (answer_words 34 page_words) (refused (record { number = told.0.0.number; at = told.0.0.record })) (page_answer (as_engine a.engine) (length a.scratch.now) (length a.out.now) a.file.now (as_start a.start)) true refl is put.new.words a.words.now (put.ensures ∙ ap (λ (t : List ℕ). over (told.0.0.number ∷ told.0.0.record ∷ t) a.words.now) (last_none (page_answer (as_engine a.engine) (length a.scratch.now) (length a.out.now) a.file.now (as_start a.start)) ((record { number = told.0.0.number; at = told.0.0.record })) page.result.last is page.ensures.last)) in
-    let whole = (given.0, (given.1, page.ensures.1.1)) in record { status = whole.0; words = whole.1.0; out = whole.1.1.0; scratch = whole.1.1.1 }
+    let is = ap (λ (v : code.Answer). as_page v page.result.last) (sym c.in-Refused.is) ∙ page.ensures.answer in
+    let given = answered (answer_words 34 page_words) (refused (record { number = c.in-Refused.r.number; at = c.in-Refused.r.record })) (page_answer (as_engine a.engine) (length a.scratch.now) (length a.out.now) a.file.now (as_start a.start)) true refl is put.new.words a.words.now (put.ensures ∙ ap (λ (t : List ℕ). over (c.in-Refused.r.number ∷ c.in-Refused.r.record ∷ t) a.words.now) (last_none (page_answer (as_engine a.engine) (length a.scratch.now) (length a.out.now) a.file.now (as_start a.start)) ((record { number = c.in-Refused.r.number; at = c.in-Refused.r.record })) page.result.last is page.ensures.last)) in
+    record { status = given.0; words = given.1; out = page.ensures.out; scratch = page.ensures.scratch }
 
 pub returns-in-Written : goal.returns-in-Written
 returns-in-Written c =
     let a = c.args in
     let page = c.page-paged in
-    let told = c.answer-in-Written-1.given in
     let put = c.put_page-in-Written in
-    let is = ap (λ (v : code.Answer). as_page v page.result.last) (sym told.1) ∙ page.ensures.answer in
-    let given = answered (answer_words 34 page_words) (accepted (record { count = told.0.0; last = page.result.last; done = told.0.1.0 })) (page_answer (as_engine a.engine) (length a.scratch.now) (length a.out.now) a.file.now (as_start a.start)) true refl is put.new.words a.words.now (put.ensures ∙ ap (λ (k : ℕ). over (told.0.0 ∷ k ∷ page.result.last) a.words.now) (flag-number told.0.1.0)) in
-    let whole = (given.0, (given.1, page.ensures.1.1)) in record { status = whole.0; words = whole.1.0; out = whole.1.1.0; scratch = whole.1.1.1 }
+    let is = ap (λ (v : code.Answer). as_page v page.result.last) (sym c.in-Written.is) ∙ page.ensures.answer in
+    let given = answered (answer_words 34 page_words) (accepted (record { count = c.in-Written.count; last = page.result.last; done = c.in-Written.done })) (page_answer (as_engine a.engine) (length a.scratch.now) (length a.out.now) a.file.now (as_start a.start)) true refl is put.new.words a.words.now (put.ensures ∙ ap (λ (k : ℕ). over (c.in-Written.count ∷ k ∷ page.result.last) a.words.now) (flag-number c.in-Written.done)) in
+    record { status = given.0; words = given.1; out = page.ensures.out; scratch = page.ensures.scratch }

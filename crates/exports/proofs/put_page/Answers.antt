@@ -15,5 +15,5 @@ bounds-words-1 c =
 pub returns : goal.returns
 returns c =
     let call = c.copy_words in
-    let wide : length c.args.t4 ≡ 32 = search rules in
-    page_put c.args.words.now call.new.to c.args.t4 c.args.a c.args.b c.requires call.ensures wide
+    let wide : length c.args.last ≡ 32 = search rules in
+    page_put c.args.words.now call.new.to c.args.last c.args.a c.args.b c.requires call.ensures wide

@@ -37,4 +37,4 @@ pub returns-in_default : goal.returns-in_default
 returns-in_default c =
     let a = c.args in
     let long = leb_yes 4 (length a.words.now) c.if-words-lt4.false in
-    let unknown = no_engine a.engine c.in_default.rest.0.1 c.in_default.rest.1 in record { status = status_unknown (count_answer (engine_of a.engine) (length a.scratch.now) a.file.now) (leb 4 (length a.words.now)) (is_engine a.engine) long unknown; words = kept_unknown (over (answer_words 4 count_words (count_answer (engine_of a.engine) (length a.scratch.now) a.file.now)) a.words.now) a.words.now (leb 4 (length a.words.now)) (is_engine a.engine) long unknown; scratch = kept_unknown (scratch_after (count_fault (engine_of a.engine) (length a.scratch.now) a.file.now) a.scratch.now) a.scratch.now (leb 4 (length a.words.now)) (is_engine a.engine) long unknown }
+    let unknown = no_engine a.engine c.in_default.in_default-own.rest.0.1 c.in_default.in_default-own.rest.1 in record { status = status_unknown (count_answer (engine_of a.engine) (length a.scratch.now) a.file.now) (leb 4 (length a.words.now)) (is_engine a.engine) long unknown; words = kept_unknown (over (answer_words 4 count_words (count_answer (engine_of a.engine) (length a.scratch.now) a.file.now)) a.words.now) a.words.now (leb 4 (length a.words.now)) (is_engine a.engine) long unknown; scratch = kept_unknown (scratch_after (count_fault (engine_of a.engine) (length a.scratch.now) a.file.now) a.scratch.now) a.scratch.now (leb 4 (length a.words.now)) (is_engine a.engine) long unknown }

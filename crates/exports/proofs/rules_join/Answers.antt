@@ -23,18 +23,16 @@ pub returns-in-Length : goal.returns-in-Length
 returns-in-Length c =
     let a = c.args in
     let call = c.join in
-    let told = c.len-1.given in
     let put = c.put_four in
     let long = leb_yes 4 (length a.words.now) c.if-words-lt4.false in
-    let given = answered join_words (accepted told.0.0) (join_answer (length a.out.now) a.first.now a.second.now) (leb 4 (length a.words.now)) long (ap as_joined (sym told.1) ∙ call.ensures.answer) put.new.words a.words.now put.ensures in
+    let given = answered join_words (accepted c.in-Length.len) (join_answer (length a.out.now) a.first.now a.second.now) (leb 4 (length a.words.now)) long (ap as_joined (sym c.in-Length.is) ∙ call.ensures.answer) put.new.words a.words.now put.ensures in
     record { status = given.0; words = given.1; out = call.ensures.out ∙ written (join_output a.first.now a.second.now a.out.now) a.out.now (leb 4 (length a.words.now)) long }
 
 pub returns-in-Refused : goal.returns-in-Refused
 returns-in-Refused c =
     let a = c.args in
     let call = c.join in
-    let told = c.r-1.given in
     let put = c.put_four-in-Refused in
     let long = leb_yes 4 (length a.words.now) c.if-words-lt4.false in
-    let given = answered join_words (refused (refusal_of (as_which told.0.0.which) told.0.0.number told.0.0.record)) (join_answer (length a.out.now) a.first.now a.second.now) (leb 4 (length a.words.now)) long (ap as_joined (sym told.1) ∙ call.ensures.answer) put.new.words a.words.now (put.ensures ∙ ap (λ (k : ℕ). over (told.0.0.number ∷ told.0.0.record ∷ k ∷ 0 ∷ []) a.words.now) c.which_number.ensures) in
+    let given = answered join_words (refused (refusal_of (as_which c.in-Refused.r.which) c.in-Refused.r.number c.in-Refused.r.record)) (join_answer (length a.out.now) a.first.now a.second.now) (leb 4 (length a.words.now)) long (ap as_joined (sym c.in-Refused.is) ∙ call.ensures.answer) put.new.words a.words.now (put.ensures ∙ ap (λ (k : ℕ). over (c.in-Refused.r.number ∷ c.in-Refused.r.record ∷ k ∷ 0 ∷ []) a.words.now) c.which_number.ensures) in
     record { status = given.0; words = given.1; out = call.ensures.out ∙ written (join_output a.first.now a.second.now a.out.now) a.out.now (leb 4 (length a.words.now)) long }

@@ -30,7 +30,7 @@ returns-in-0 c =
     let a = c.args in
     let call = c.page_into in
     let is = c.in-0.is in
-    let start = c.start_of_lem.ensures in
+    let start = c.start_of-from.ensures in
     let long = and-join (start_fine a.start.now c.if-start.false) (leb_yes 34 (length a.words.now) c.if-words-lt34.false) in
     let known = ap is_engine is in
     let engine = ap engine_of is in record { status = call.ensures.status ∙ ap (λ (s : Start). status true true (page_answer (structural) (length a.scratch.now) (length a.out.now) a.file.now (s))) start ∙ engine_status a.engine structural (is_start a.start.now && leb 34 (length a.words.now)) long known engine (λ (e : Engine). page_answer (e) (length a.scratch.now) (length a.out.now) a.file.now (start_of a.start.now)); words = call.ensures.words ∙ ap (λ (s : Start). over (answer_words 34 page_words (page_answer (structural) (length a.scratch.now) (length a.out.now) a.file.now (s))) a.words.now) start ∙ engine_left a.engine structural (is_start a.start.now && leb 34 (length a.words.now)) long known engine (λ (e : Engine). over (answer_words 34 page_words (page_answer (e) (length a.scratch.now) (length a.out.now) a.file.now (start_of a.start.now))) a.words.now) a.words.now; out = call.ensures.out ∙ ap (λ (s : Start). page_output (structural) (length a.scratch.now) a.file.now (s) a.out.now) start ∙ engine_left a.engine structural (is_start a.start.now && leb 34 (length a.words.now)) long known engine (λ (e : Engine). page_output (e) (length a.scratch.now) a.file.now (start_of a.start.now) a.out.now) a.out.now; scratch = call.ensures.scratch ∙ ap (λ (s : Start). scratch_after (page_fault (structural) (length a.scratch.now) (length a.out.now) a.file.now (s)) a.scratch.now) start ∙ engine_left a.engine structural (is_start a.start.now && leb 34 (length a.words.now)) long known engine (λ (e : Engine). scratch_after (page_fault (e) (length a.scratch.now) (length a.out.now) a.file.now (start_of a.start.now)) a.scratch.now) a.scratch.now }
@@ -40,7 +40,7 @@ returns-in-1 c =
     let a = c.args in
     let call = c.page_into-in-1 in
     let is = c.in-1.is in
-    let start = c.start_of_lem.ensures in
+    let start = c.start_of-from.ensures in
     let long = and-join (start_fine a.start.now c.if-start.false) (leb_yes 34 (length a.words.now) c.if-words-lt34.false) in
     let known = ap is_engine is in
     let engine = ap engine_of is in record { status = call.ensures.status ∙ ap (λ (s : Start). status true true (page_answer (exhaustive) (length a.scratch.now) (length a.out.now) a.file.now (s))) start ∙ engine_status a.engine exhaustive (is_start a.start.now && leb 34 (length a.words.now)) long known engine (λ (e : Engine). page_answer (e) (length a.scratch.now) (length a.out.now) a.file.now (start_of a.start.now)); words = call.ensures.words ∙ ap (λ (s : Start). over (answer_words 34 page_words (page_answer (exhaustive) (length a.scratch.now) (length a.out.now) a.file.now (s))) a.words.now) start ∙ engine_left a.engine exhaustive (is_start a.start.now && leb 34 (length a.words.now)) long known engine (λ (e : Engine). over (answer_words 34 page_words (page_answer (e) (length a.scratch.now) (length a.out.now) a.file.now (start_of a.start.now))) a.words.now) a.words.now; out = call.ensures.out ∙ ap (λ (s : Start). page_output (exhaustive) (length a.scratch.now) a.file.now (s) a.out.now) start ∙ engine_left a.engine exhaustive (is_start a.start.now && leb 34 (length a.words.now)) long known engine (λ (e : Engine). page_output (e) (length a.scratch.now) a.file.now (start_of a.start.now) a.out.now) a.out.now; scratch = call.ensures.scratch ∙ ap (λ (s : Start). scratch_after (page_fault (exhaustive) (length a.scratch.now) (length a.out.now) a.file.now (s)) a.scratch.now) start ∙ engine_left a.engine exhaustive (is_start a.start.now && leb 34 (length a.words.now)) long known engine (λ (e : Engine). scratch_after (page_fault (e) (length a.scratch.now) (length a.out.now) a.file.now (start_of a.start.now)) a.scratch.now) a.scratch.now }
@@ -49,4 +49,4 @@ pub returns-in_default : goal.returns-in_default
 returns-in_default c =
     let a = c.args in
     let long = and-join (start_fine a.start.now c.if-start.false) (leb_yes 34 (length a.words.now) c.if-words-lt34.false) in
-    let unknown = no_engine a.engine c.in_default.rest.0.1 c.in_default.rest.1 in record { status = status_unknown (page_answer (engine_of a.engine) (length a.scratch.now) (length a.out.now) a.file.now (start_of a.start.now)) (is_start a.start.now && leb 34 (length a.words.now)) (is_engine a.engine) long unknown; words = kept_unknown (over (answer_words 34 page_words (page_answer (engine_of a.engine) (length a.scratch.now) (length a.out.now) a.file.now (start_of a.start.now))) a.words.now) a.words.now (is_start a.start.now && leb 34 (length a.words.now)) (is_engine a.engine) long unknown; out = kept_unknown (page_output (engine_of a.engine) (length a.scratch.now) a.file.now (start_of a.start.now) a.out.now) a.out.now (is_start a.start.now && leb 34 (length a.words.now)) (is_engine a.engine) long unknown; scratch = kept_unknown (scratch_after (page_fault (engine_of a.engine) (length a.scratch.now) (length a.out.now) a.file.now (start_of a.start.now)) a.scratch.now) a.scratch.now (is_start a.start.now && leb 34 (length a.words.now)) (is_engine a.engine) long unknown }
+    let unknown = no_engine a.engine c.in_default.in_default-own.rest.0.1 c.in_default.in_default-own.rest.1 in record { status = status_unknown (page_answer (engine_of a.engine) (length a.scratch.now) (length a.out.now) a.file.now (start_of a.start.now)) (is_start a.start.now && leb 34 (length a.words.now)) (is_engine a.engine) long unknown; words = kept_unknown (over (answer_words 34 page_words (page_answer (engine_of a.engine) (length a.scratch.now) (length a.out.now) a.file.now (start_of a.start.now))) a.words.now) a.words.now (is_start a.start.now && leb 34 (length a.words.now)) (is_engine a.engine) long unknown; out = kept_unknown (page_output (engine_of a.engine) (length a.scratch.now) a.file.now (start_of a.start.now) a.out.now) a.out.now (is_start a.start.now && leb 34 (length a.words.now)) (is_engine a.engine) long unknown; scratch = kept_unknown (scratch_after (page_fault (engine_of a.engine) (length a.scratch.now) (length a.out.now) a.file.now (start_of a.start.now)) a.scratch.now) a.scratch.now (is_start a.start.now && leb 34 (length a.words.now)) (is_engine a.engine) long unknown }

@@ -24,17 +24,15 @@ pub returns-in-Refused : goal.returns-in-Refused
 returns-in-Refused c =
     let a = c.args in
     let v = c.validate in
-    let told = c.r-1.given in
     let put = c.put_four in
-    let fault = validated_fault a.file.now v.result told.0.0 told.1 v.ensures in
-    let whole = answered (answer_words 4 spec_words) (refused (record { number = told.0.0.number; at = told.0.0.record })) (answer (file_fault a.file.now) (decoded a.file.now)) (leb 4 (length a.words.now)) (leb_yes 4 (length a.words.now) c.if-words-lt4.false) (ap (λ (o : Option Refused). answer o (decoded a.file.now)) (sym fault)) put.new.words a.words.now put.ensures in record { status = whole.0; words = whole.1 }
+    let fault = validated_fault a.file.now v.result c.in-Refused.r c.in-Refused.is v.ensures in
+    let whole = answered (answer_words 4 spec_words) (refused (record { number = c.in-Refused.r.number; at = c.in-Refused.r.record })) (answer (file_fault a.file.now) (decoded a.file.now)) (leb 4 (length a.words.now)) (leb_yes 4 (length a.words.now) c.if-words-lt4.false) (ap (λ (o : Option Refused). answer o (decoded a.file.now)) (sym fault)) put.new.words a.words.now put.ensures in record { status = whole.0; words = whole.1 }
 
 pub returns-in-Accepted : goal.returns-in-Accepted
 returns-in-Accepted c =
     let a = c.args in
     let v = c.validate in
-    let told = c.shape-1.given in
     let put = c.put_four-in-Accepted in
-    let shape = validated_shape a.file.now v.result told.0.0 told.1 v.ensures in
-    let words = spec_told a.file.now told.0.0 c.scratch_for.result shape.0 (shape_told a.file.now told.0.0 shape.1) c.scratch_for.ensures in
+    let shape = validated_shape a.file.now v.result c.in-Accepted.shape c.in-Accepted.is v.ensures in
+    let words = spec_told a.file.now c.in-Accepted.shape c.scratch_for.result shape.0 (shape_told a.file.now c.in-Accepted.shape shape.1) c.scratch_for.ensures in
     let whole = answered (answer_words 4 spec_words) (accepted (decoded a.file.now)) (answer (file_fault a.file.now) (decoded a.file.now)) (leb 4 (length a.words.now)) (leb_yes 4 (length a.words.now) c.if-words-lt4.false) (ap (λ (o : Option Refused). answer o (decoded a.file.now)) (sym shape.0)) put.new.words a.words.now (put.ensures ∙ ap (λ (w : List ℕ). over w a.words.now) words) in record { status = whole.0; words = whole.1 }
