@@ -1,5 +1,5 @@
 -- `classifier::page::write_page` meets its contract: a tuple is written a turn, until there is none or no room.
-use mathlib.Core.Bool.{Bool, cond, false, true}
+use mathlib.Core.Bool.{Bool, cond, true}
 use mathlib.Core.List.{List, [], ◌∷◌}
 use mathlib.Core.Path.{◌∙◌, ◌≡◌, ap, ap₂, refl, subst, sym}
 use Prim.Native.Nat.{◌*◌, ◌+◌, ◌-◌, ◌<◌, ◌^◌, ◌≤◌, ℕ}
@@ -24,7 +24,7 @@ use Rattle.classifier.specs.Count.{verdict_of}
 use Rattle.classifier.specs.Page.{due_tuples, start_tuple, words, words_of}
 use Rattle.classifier.proofs.Going.{Begun, Going, going_begun, going_due, going_next, going_padded, going_turn}
 use Rattle.classifier.proofs.Paging.{Writing, next_fewer, page_finished, page_stopped, writing_none, writing_turn, writing_wide}
-use Rattle.classifier.proofs.Starts.{Wide, start_wide}
+use Rattle.classifier.proofs.Starts.{start_wide}
 use Rattle.classifier.proofs.Turning.{due_in, turn_asks, words_long, words_verdict, words_in}
 use Rattle.classifier.proofs.Walked.{file_short, lent_few, rules_part, walking_walks, walking_wide}
 use Rattle.classifier.proofs.page.write_page.Goals.{After-enables_of-many, After-first_of-from, At-loop-more, Else-out-at, In-loop-more}
