@@ -1,6 +1,7 @@
 -- `classifier::page::late_number` meets its contract: 14, 15, or 0.
 use mathlib.Core.Bool.{false, true}
 use mathlib.Core.Path.{◌∙◌, ◌≡◌, ap, sym}
+use borrow.Author.Tests.{not-false, not-true}
 use lib.ListN.{length}
 use Rattle.compose.specs.Code.{plan_in}
 use Rattle.compose.specs.Walk.{Plan, is_tuple}
@@ -19,7 +20,7 @@ module _ (s : Start) where
 
 -- a start that is given is asked about
 given : (c : Else-not-start) → is_start (plan c.before.before.before.before.before.before.before.before) (as_start c.args.start) ≡ is_tuple (plan c.before.before.before.before.before.before.before.before) c.args.start.tuple
-given c = let s : Start = c.before.before.before.before.before.before.before.before in ap (is_start (plan s)) (given_start s.args.start (c.if-not-start.false))
+given c = let s : Start = c.before.before.before.before.before.before.before.before in ap (is_start (plan s)) (given_start s.args.start (not-false s.args.start.given c.if-not-start.false))
 
 pub returns-then-n-room : goal.returns-then-n-room
 returns-then-n-room c =
@@ -29,7 +30,7 @@ returns-then-n-room c =
 pub returns-then-not-start : goal.returns-then-not-start
 returns-then-not-start c =
     let s = (goal.at.returns-then-not-start c).Start in
-    late_15 (plan s) (length s.args.order.now) s.args.room (as_start s.args.start) (wide s) c.if-n-room.false true (ap (is_start (plan s)) (not-given s.args.start (c.if-not-start.true)))
+    late_15 (plan s) (length s.args.order.now) s.args.room (as_start s.args.start) (wide s) c.if-n-room.false true (ap (is_start (plan s)) (not-given s.args.start (not-true s.args.start.given c.if-not-start.true)))
 
 pub returns-then-is_emitted : goal.returns-then-is_emitted
 returns-then-is_emitted c =

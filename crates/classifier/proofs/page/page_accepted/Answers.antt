@@ -15,9 +15,6 @@ use Rattle.classifier.proofs.Late.{leaves_late, leaves_short}
 use Rattle.classifier.proofs.page.page_accepted.Goals.{After-heads_of, Else-scratch-room_for}
 use Rattle.classifier.proofs.page.page_accepted.Goals as goal
 
-pub slice_bounds-heads_of-end : goal.slice_bounds-heads_of-end
-slice_bounds-heads_of-end c = refl
-
 pub heads_of-requires : goal.heads_of-requires
 heads_of-requires c = let f = groups-few c.args.file.now c.requires.0 in omega arith
 
@@ -48,16 +45,18 @@ returns-then-scratch-room_for c =
     let whole = leaves_short (as_engine c.args.engine) (length c.args.out.now) c.args.file.now (as_start c.args.start) c.args.out.now c.args.scratch.now refl c.requires.0 (omega arith) _ _ c.refuse.ensures.0 c.refuse.ensures.1 in record { answer = whole.0; last = whole.1.0; out = whole.1.1.0; scratch = whole.1.1.1 }
 
 -- there is room
-roomy : (c : Else-scratch-room_for) → scratch_for (decoded c.args.file.now) ≤ length c.args.scratch.now
-roomy c =
-    let room = c.room_for.ensures ∙ room_is c.args.file.now c.heads_of.new.at c.args.shape.fields c.args.shape.constraints (stood (record { before = c.before.before.before.before.before.before; type_inv = record { file = c.shared_slice_known-1.given } })) in
+roomy : (c : Else-scratch-room_for) → Opened c.args.file.now c.heads_of.new.at c.args.shape.fields c.args.shape.constraints → scratch_for (decoded c.args.file.now) ≤ length c.args.scratch.now
+roomy c o =
+    let room = c.room_for.ensures ∙ room_is c.args.file.now c.heads_of.new.at c.args.shape.fields c.args.shape.constraints o in
     let long = c.if-scratch-room_for.false in
     omega arith
 
 pub page_lent-paged-requires : goal.page_lent-paged-requires
-page_lent-paged-requires c = (stood (goal.at.page_lent-paged-requires c).After-heads_of, roomy (goal.at.page_lent-paged-requires c).Else-scratch-room_for)
+page_lent-paged-requires c =
+    let o = stood (goal.at.page_lent-paged-requires c).After-heads_of in
+    (o, roomy (goal.at.page_lent-paged-requires c).Else-scratch-room_for o)
 
 pub returns : goal.returns
 returns c =
     let p = c.page_lent-paged in
-    let whole = leaves_late (as_engine c.args.engine) (length c.args.out.now) c.args.file.now (as_start c.args.start) c.args.out.now c.args.scratch.now refl c.requires.0 (roomy (goal.at.returns c).Else-scratch-room_for) _ _ p.new.out c.clear.new.list p.ensures (c.clear.ensures ∙ ap (λ (k : ℕ). replicate k (pos 0)) p.auto.scratch) in record { answer = whole.0; last = whole.1.0; out = whole.1.1.0; scratch = whole.1.1.1 }
+    let whole = leaves_late (as_engine c.args.engine) (length c.args.out.now) c.args.file.now (as_start c.args.start) c.args.out.now c.args.scratch.now refl c.requires.0 (roomy (goal.at.returns c).Else-scratch-room_for (stood (goal.at.returns c).After-heads_of)) _ _ p.new.out c.clear.new.list (p.ensures.answer, (p.ensures.last, p.ensures.out)) (c.clear.ensures ∙ ap (λ (k : ℕ). replicate k (pos 0)) p.auto.scratch) in record { answer = whole.0; last = whole.1.0; out = whole.1.1.0; scratch = whole.1.1.1 }

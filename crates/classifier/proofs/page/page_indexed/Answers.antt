@@ -13,4 +13,4 @@ index_heads-requires c =
     (constraints_low c.args.file.now c.args.heads.now (length c.args.order.now) c.args.c c.requires.0.opened structural c.args.c refl, z.0, z.1, z.2, z.3)
 
 pub write_page-requires : goal.write_page-requires
-write_page-requires c = (c.requires.0, c.index-heads.ensures, no_tables c.args.file.now c.args.scratch.now c.args.lists.now c.args.maps.now (length c.args.order.now), c.requires.1)
+write_page-requires c = (c.requires.0, c.index_heads.ensures, no_tables c.args.file.now c.args.scratch.now c.args.lists.now c.args.maps.now (length c.args.order.now), c.requires.1)
