@@ -13,6 +13,5 @@ pub returns-in-Accepted : goal.returns-in-Accepted
 returns-in-Accepted c =
     let file = c.args.file.now in
     let v = c.validate in
-    let shape = c.shape-1.given in
-    let told = validated_shape file v.result shape.0.0 shape.1 v.ensures in
-    fields-accepted file shape.0.0.fields told.0 (shape_told file shape.0.0 told.1).fields
+    let told = validated_shape file v.result c.in-Accepted.shape c.in-Accepted.is v.ensures in
+    fields-accepted file c.in-Accepted.shape.fields told.0 (shape_told file c.in-Accepted.shape told.1).fields

@@ -15,8 +15,7 @@ use Rattle.program.proofs.list.last_text.Goals as goal
 pub returns-in-Refused : goal.returns-in-Refused
 returns-in-Refused c =
     let put = c.put_refusal in
-    let told = c.r-1.given in
-    let r = told.0.0 in
+    let r = c.in-Refused.r in
     let counted = c.count in
     let old = c.args.text.now in
     let room : length old ≡ 96 = search rules in
@@ -24,13 +23,12 @@ returns-in-Refused c =
     let at : r.record < 2 ^ 64 = search rules in
     let line = refused_line (refusal r.number r.record) in
     let stands = put_line_lem old put.new.out line put.result _ (room_yes old 0 50 (omega arith)) put.ensures.out_after put.ensures.value (omega (arith, refused_short (refusal r.number r.record) number at)) in
-    record { counted = stands.0; line = stands.1 ∙ ap (λ (v : Counted). last_line (as_counted v)) (sym told.1) ∙ ap last_line counted.ensures.answer }
+    record { counted = stands.0; line = stands.1 ∙ ap (λ (v : Counted). last_line (as_counted v)) (sym c.in-Refused.is) ∙ ap last_line counted.ensures.answer }
 
 pub returns-in-Counted : goal.returns-in-Counted
 returns-in-Counted c =
     let put = c.put_end in
-    let told = c.c-1.given in
-    let n = told.0.0 in
+    let n = c.in-Counted.c in
     let counted = c.count in
     let old = c.args.text.now in
     let room : length old ≡ 96 = search rules in
@@ -39,4 +37,4 @@ returns-in-Counted c =
     let passed : n.passed < 2 ^ 64 = search rules in
     let failed : n.failed < 2 ^ 64 = search rules in
     let stands = put_line_lem old put.new.out (end_line (as_counts n)) put.result _ (room_yes old 0 88 (omega arith)) put.ensures.out_after put.ensures.value (omega (arith, end_short (as_counts n) total emitted passed failed)) in
-    record { counted = stands.0; line = stands.1 ∙ ap (λ (v : Counted). last_line (as_counted v)) (sym told.1) ∙ ap last_line counted.ensures.answer }
+    record { counted = stands.0; line = stands.1 ∙ ap (λ (v : Counted). last_line (as_counted v)) (sym c.in-Counted.is) ∙ ap last_line counted.ensures.answer }
