@@ -7,10 +7,8 @@ use native.Mathlib.Omega.{arith}
 use lib.Dec.{lit<}
 use lib.IntN.{pos}
 use lib.ListN.{length, take}
-use Rattle.spec.specs.Domain.{total}
 use Rattle.spec.specs.Record.{decoded}
-use Rattle.compose.specs.Tuples.{Engine, emitted, exhaustive, structural}
-use Rattle.evaluate.specs.Verdict.{passed}
+use Rattle.compose.specs.Tuples.{Engine, exhaustive, structural}
 use Rattle.classifier.specs.Count.{Accepts, counts_of, verdicts}
 use Rattle.join.specs.Join.{join_bytes, join_fault}
 use Rattle.join.proofs.Multiplies.{JoinMultiplies, join_multiplies, nth}

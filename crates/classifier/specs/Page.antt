@@ -1,5 +1,5 @@
 -- What page answers, and what it leaves in the output. The scratch afterwards is `scratch_after` of its fault.
-use Rattle.std.specs.Prelude.{Bool, true, false, ◌&&◌, List, [], ◌∷◌, ◌++◌, ℕ, ◌+◌, ◌-◌, ◌/◌, min, length, take, drop, leb, ltb, ℤ, pos}
+use Rattle.std.specs.Prelude.{Bool, true, false, ◌&&◌, List, [], ◌∷◌, ◌++◌, ℕ, ◌+◌, ◌/◌, min, length, take, drop, leb, ltb, ℤ, pos}
 use Rattle.std.proofs.Math.Option.{Option, none, some, get_or}
 use Rattle.lists.specs.Lists.{concat_map, eq_list}
 use Rattle.spec.specs.Spec.{Spec}

@@ -1,5 +1,6 @@
 // Module 5, after src/verify/classifier.rs and src/classification/mod.rs: count and page. Its definitions are in specs/.
 #![tactic(auto)]
+
 pub mod count;
 mod judge;
 pub mod page;

@@ -3,13 +3,13 @@ use mathlib.Core.Bool.{Bool, ◌||◌, cond, false, true}
 use mathlib.Core.List.{List, [], ◌++◌, ◌∷◌, append_assoc, append-nil, map}
 use mathlib.Core.Logic.{◌⊎◌, inl, inr}
 use mathlib.Core.Path.{◌∙◌, ◌≡◌, ap, ap₂, refl, subst, sym}
-use Prim.Native.Nat.{◌+◌, ◌<◌, ◌≤◌, suc, zero, ℕ}
+use Prim.Native.Nat.{◌+◌, ◌<◌, ◌≤◌, suc, ℕ}
 use native.Mathlib.Nat.{add-zero}
 use native.Mathlib.Numerals.{add-one}
 use native.Mathlib.Omega.{arith}
 use lib.Dec.{T, eqb, ltb, ltb→lt}
 use lib.ListN.{drop, get_or, length, length-append, length-set, length-take, set, take}
-use lib.Seq.{drop-cons, drop-nil, get_or-append_seam, get_or-take, length-take-le, take-set-le, take-suc-set}
+use lib.Seq.{get_or-append_seam, get_or-take, length-take-le, take-set-le, take-suc-set}
 use Rattle.lists.specs.Lists.{concat_map, cons_if, count_if, filter, upto}
 use Rattle.lists.proofs.All.{All, All_imp, []ᴬ, ◌∷ᴬ◌, filter-all}
 use Rattle.lists.proofs.Lists.{concat_map_append, count_if_le, count_if_or, filter_append, filter_every, get_d_left}

@@ -1,5 +1,6 @@
 // Module 2, after src/verify/compose.rs: allowed lists, kept maps, field order, index tuples, forcing. Its definitions are in specs/.
 #![tactic(auto)]
+
 mod childless;
 pub mod filters;
 mod finding;

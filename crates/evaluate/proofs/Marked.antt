@@ -9,8 +9,8 @@ use native.Mathlib.Numerals.{add-one}
 use native.Mathlib.Omega.{arith}
 use borrow.Rule.Slice.PartMut.{drop_put, mid_len, put_mid, same_len_mid, take_put}
 use lib.Dec.{ltb}
-use lib.ListN.{get_or-append, get_or-eq_default, drop, get_or, get_or-replicate, length, length-set, replicate, set, take}
-use lib.Seq.{drop_at, drop-set-lt, get_or-append-add, get_or-drop, get_or-set_other, get_or-set_same, get_or-take, length-take-le, take_at, take-nil, take-set-le, take-take}
+use lib.ListN.{get_or-eq_default, drop, get_or, get_or-replicate, length, length-set, replicate, set, take}
+use lib.Seq.{drop_at, drop-set-lt, get_or-drop, get_or-set_same, get_or-take, length-take-le, take_at, take-nil, take-set-le, take-take}
 use Rattle.lists.specs.Lists.{any, upto}
 use Rattle.lists.proofs.Lists.{any_append}
 use Rattle.lists.proofs.Numbers.{upto_add}

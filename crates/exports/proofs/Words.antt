@@ -2,16 +2,15 @@
 use mathlib.Core.Bool.{Bool, ◌&&◌, false, not, true}
 use mathlib.Core.List.{List, [], ◌++◌, ◌∷◌}
 use mathlib.Core.Option.{Option, none}
-use mathlib.Core.Path.{◌∙◌, ◌≡◌, ap, refl, subst, sym}
-use Prim.Native.Nat.{◌<◌, ◌≤◌, suc, ℕ}
+use mathlib.Core.Path.{◌∙◌, ◌≡◌, ap, refl, sym}
+use Prim.Native.Nat.{◌≤◌, suc, ℕ}
 use native.Mathlib.Omega.{arith}
 use borrow.Rule.Slice.PartMut.{put_mid}
 use mir.Val.{bool_byte}
-use lib.Dec.{eqb, leb, ltb}
+use lib.Dec.{eqb, ltb}
 use lib.ListN.{drop, length, set, take}
 use Rattle.lists.specs.Lists.{over, suc_if}
 use Rattle.lists.proofs.Tests.{eqb_no, leb_no, leb_yes, ltb_no, no_ge, yes_le, yes_lt}
-use Rattle.spec.specs.Domain.{total}
 use Rattle.spec.specs.Record.{decoded}
 use Rattle.spec.specs.Refusal.{Answer, Refused, file_fault, refused, unless_refused}
 use Rattle.spec.specs.declared.validate.Shape as code

@@ -1,5 +1,6 @@
 // The calls for other languages, over numbers and slices alone. Each gives a status; the answer stands in a lent array.
 #![tactic(auto)]
+
 ghost use Rattle.std.specs.Prelude.{◌≡◌, true, ◌&&◌, [], ◌∷◌, ◌≤◌, leb, length, take};
 ghost use Rattle.lists.specs.Lists.{over};
 ghost use Rattle.spec.specs.Record.{decoded};

@@ -8,7 +8,6 @@ use native.Mathlib.Omega.{arith}
 use lib.Dec.{eqb, leb, ltb}
 use lib.IntN.{pos}
 use lib.ListN.{length, length-map}
-use mir.Syntax.{named}
 use Rattle.lists.specs.Lists.{is_empty}
 use Rattle.lists.proofs.All.{All, []ᴬ, ◌∷ᴬ◌}
 use Rattle.lists.proofs.Lists.{map_append}
@@ -19,7 +18,6 @@ use Rattle.spec.specs.Record.{Group, Record, group}
 use Rattle.spec.specs.Refusal.{after_head, bad_axis, bad_packing, blank_by, context, list_fault, negative, no_such_field, not_due, off_scale, on_scale, stray_by, stray_byte}
 use Rattle.spec.proofs.Good.{ConstraintGood, FieldsGood, Good, GoodBy, MemberGood, MembersGood, belongs_by, constraint_more, constraint_ordered, constraint-row, constraint_groups, field_groups, good_parts}
 use Rattle.spec.proofs.Groups.{Proper}
-use Rattle.registry.specs.Project.{packed}
 use Rattle.classifier.specs.Page.{due}
 use Rattle.join.specs.Join.{add_if, moves}
 

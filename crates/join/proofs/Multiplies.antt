@@ -8,7 +8,6 @@ use native.Mathlib.Omega.{arith}
 use lib.Dec.{eqb, ltb}
 use lib.IntN.{◌+ℤ◌, ℤ}
 use lib.ListN.{get_or, length}
-use mir.Syntax.{named}
 use Rattle.lists.specs.Integers.{sum_z}
 use Rattle.lists.specs.Lists.{count_if, pair_up}
 use Rattle.lists.proofs.All.{All, All_at, All-mapped, All_of}

@@ -9,7 +9,6 @@ use lib.ListN.{length, length-append}
 use Rattle.lists.specs.Lists.{first_false}
 use Rattle.lists.proofs.First.{first_false_append, first_false_le, or_shift, shift}
 use Rattle.lists.proofs.Tests.{leb_no, leb_yes, no_ge, yes_le, yes_lt}
-use Rattle.evaluate.specs.Verdict.{passed}
 use Rattle.join.specs.Join.{among, join_place}
 
 among_yes : {s n : ℕ} → 0 < s → s ≤ n → among s n ≡ true

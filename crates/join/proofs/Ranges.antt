@@ -8,7 +8,6 @@ use native.Mathlib.Omega.{arith}
 use lib.Dec.{eqb, leb, ltb}
 use lib.ListN.{drop, get_or, length, length-append, length-map, take, take-append-drop}
 use lib.Seq.{drop_at, get_or_at, length-take-le, take_at}
-use mir.Syntax.{named}
 use Rattle.lists.specs.Lists.{filter}
 use Rattle.lists.proofs.All.{All, All_append, All_at, All-filter, All_imp, []ᴬ, ◌∷ᴬ◌, filter-all}
 use Rattle.lists.proofs.Lists.{concat_map_append, filter_append, filter_every, filter_none, get_d_left}

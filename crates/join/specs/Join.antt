@@ -3,11 +3,10 @@ use Rattle.std.specs.Prelude.{Bool, ◌&&◌, ◌||◌, cond, false, true, List,
 use Rattle.std.proofs.Math.Option.{Option, none, some}
 use Rattle.lists.specs.Lists.{concat_map, filter}
 use Rattle.spec.specs.Domain.{too_many}
-use Rattle.spec.specs.Kind.{Kind, Use, is_field, is_names, is_own, kind_of, projector, row_of, section_of}
+use Rattle.spec.specs.Kind.{Kind, Use, is_field, is_names, is_own, kind_of, row_of, section_of}
 use Rattle.spec.specs.Record.{decoded, parts_of, record_of}
 use Rattle.spec.specs.Refusal.{Answer, Refused, ◌▷◌, answer, file_fault, refuse, refuse_if, unless_refused}
 use Rattle.spec.specs.Spec.{Assign, Check, ConstraintSpec, Cross, Decompose, Enable, Eq, FieldAssignment, Identity, Neq, Parity, ProjectorSpec, Spec, Sum}
-use Rattle.compose.specs.Tuples.{values}
 use Rattle.evaluate.specs.Verdict.{Verdict}
 
 -- ---- the joined bytes

@@ -1,5 +1,5 @@
 -- The text of verdicts from their page words, and what a buffer holds after text was put into it.
-use Rattle.std.specs.Prelude.{Bool, true, false, ◌&&◌, cond, List, [], ◌∷◌, ◌++◌, ℕ, zero, suc, ◌+◌, ◌*◌, ◌/◌, leb, ℤ, pos, drop, get_or, length, take}
+use Rattle.std.specs.Prelude.{Bool, true, false, ◌&&◌, List, [], ◌∷◌, ◌++◌, ℕ, zero, suc, ◌+◌, ◌*◌, leb, ℤ, pos, drop, get_or, length, take}
 use Rattle.std.proofs.lemmas.List.Edits.{sets}
 use Rattle.lists.specs.Lists.{concat_map}
 use Rattle.lists.specs.Integers.{eq_z}

@@ -6,7 +6,7 @@ use mathlib.Core.Path.{◌∙◌, ◌≡◌, ap, ap₂, refl, subst, sym}
 use Prim.Native.Nat.{◌*◌, ◌+◌, ◌/◌, ◌<◌, ◌≤◌, suc, zero, ◌^◌, ℕ}
 use native.Mathlib.Omega.{arith}
 use native.Mathlib.Nat.{min-le_left, min-le_right, suc-mul}
-use lib.IntN.{pos, ℤ}
+use lib.IntN.{ℤ}
 use lib.ListN.{drop, length, length-append, take}
 use lib.Seq.{length-take-le}
 use Rattle.classifier.specs.Code.{as_page}
@@ -17,7 +17,7 @@ use Rattle.listing.specs.Counts.{IsPrefixLen}
 use Rattle.lists.specs.Lists.{concat_map, eq_list}
 use Rattle.lists.proofs.All.{All, All-filter, All_imp, All-mapped, []ᴬ, ◌∷ᴬ◌}
 use Rattle.spec.specs.Record.{decoded}
-use Rattle.spec.specs.Refusal.{Answer, Refused, ◌▷◌, accepted, answer, file_fault, unless_refused}
+use Rattle.spec.specs.Refusal.{Refused, accepted, answer, file_fault, unless_refused}
 use Rattle.spec.specs.Spec.{Spec}
 use Rattle.spec.proofs.Accepted.{decoded-few, file_good}
 use Rattle.spec.proofs.Named.{width}
@@ -31,7 +31,7 @@ use Rattle.compose.proofs.Rows.{length-values}
 use Rattle.evaluate.specs.Verdict.{Verdict}
 use Rattle.classifier.specs.Count.{count_fault, verdict_of}
 use Rattle.classifier.specs.Count as counting
-use Rattle.classifier.specs.Page.{Page, Start, after_tuple, beginning, due, due_tuples, fit_count, following, page_answer, page_fault, page_of, page_output, page_words, projection_words, rest_if, words, words_of}
+use Rattle.classifier.specs.Page.{Page, Start, after_tuple, beginning, due, due_tuples, fit_count, following, page_answer, page_fault, page_of, page_output, page_words, rest_if, words, words_of}
 use Rattle.listing.specs.Text.{decimal, end_line, newline, refused_line, spaced, verdict_line}
 use Rattle.listing.specs.Words.{after_if, can_list, lines_of, put_if}
 use Rattle.listing.proofs.Buffer.{put_first}

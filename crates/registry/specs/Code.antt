@@ -3,7 +3,7 @@ use Rattle.std.specs.Prelude.{Bool, true, false, cond, List, map, ◌≡◌, ℕ
 use Rattle.std.proofs.Math.Option.{Option, none, some}
 use Rattle.std.specs.Int.Signed.{le_z}
 use Rattle.lists.proofs.All.{All}
-use Rattle.spec.specs.Kind.{ConstraintKind, Kind, bitmask, constraint, cross, decompose, enable_mask, enable_set, eq, even, field, ge, gt, identity, le, lt, member, neq, oneof, parity, projector, range, sum, unknown}
+use Rattle.spec.specs.Kind.{ConstraintKind, Kind, bitmask, constraint, cross, enable_mask, enable_set, eq, even, field, ge, gt, le, lt, member, neq, oneof, projector, range, unknown}
 use Rattle.spec.specs.Record.{Group, Record, group, projector_by, record_at, records_of}
 use Rattle.spec.specs.Refusal.{negative, on_scale}
 use Rattle.spec.specs.Spec.{Bitmask, Even, Ge, Gt, Le, Lt, Oneof, Range, Test}

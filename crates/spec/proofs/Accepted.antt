@@ -8,7 +8,6 @@ use native.Mathlib.Nat.{zero-add}
 use native.Mathlib.Omega.{arith}
 use lib.Dec.{eqb, leb, ltb}
 use lib.ListN.{length, length-map}
-use mir.Syntax.{named}
 use Rattle.lists.specs.Lists.{concat_map, cons_if, is_empty}
 use Rattle.lists.proofs.All.{All, All_append, []ᴬ, ◌∷ᴬ◌}
 use Rattle.lists.proofs.Lists.{concat_map-filter, length-pos}

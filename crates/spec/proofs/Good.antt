@@ -8,7 +8,6 @@ use native.Mathlib.Nat.{add-zero}
 use native.Mathlib.Omega.{arith}
 use lib.Dec.{eqb, leb}
 use lib.ListN.{length}
-use mir.Syntax.{named}
 use Rattle.lists.specs.Lists.{cons_if, filter}
 use Rattle.lists.proofs.All.{All, []ᴬ, ◌∷ᴬ◌}
 use Rattle.lists.proofs.Tests.{eqb_no, leb_no, ltb_no, ltb_yes, no_gt, or_split}

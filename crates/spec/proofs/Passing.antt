@@ -1,5 +1,5 @@
 -- Members that are passed at once: a plain member belongs to its head and has no fault, so it leaves what there was to judge.
-use mathlib.Core.Bool.{Bool, ◌&&◌, ◌||◌, cond, false, true, false≢true}
+use mathlib.Core.Bool.{Bool, ◌&&◌, ◌||◌, cond, false, true}
 use mathlib.Core.List.{List}
 use mathlib.Core.Path.{◌∙◌, ◌≡◌, ap, refl, subst, sym}
 use Prim.Native.Nat.{◌*◌, ◌+◌, ◌-◌, ◌/◌, ◌<◌, ◌≤◌, suc, zero, ℕ}
@@ -12,12 +12,12 @@ use Rattle.lists.specs.Integers.{eq_z}
 use Rattle.lists.proofs.Integers.{eq_z_eq}
 use Rattle.lists.proofs.Tests.{and_split, eqb_yes, no_ge, or_false, yes_eq, yes_lt}
 use Rattle.spec.specs.Code.{InBytes, is_plain, lead_of, left_at, plain_kind, plain_lead}
-use Rattle.spec.specs.Kind.{Kind, MemberKind, is_member, item, kind_of, member, member_row, pair, row_of, value}
+use Rattle.spec.specs.Kind.{Kind, is_member, item, kind_of, member, pair, row_of, value}
 use Rattle.spec.specs.Record.{Record, record_at, records_of}
-use Rattle.spec.specs.Refusal.{belongs, first_true, member_tests, on_scale}
+use Rattle.spec.specs.Refusal.{first_true, member_tests, on_scale}
 use Rattle.spec.specs.declared.scan.State.{State}
 use Rattle.spec.proofs.Fields.{kind_of_lem}
-use Rattle.spec.proofs.Turns.{at_member, refuse-none}
+use Rattle.spec.proofs.Turns.{at_member}
 
 -- One more number of which something is said.
 pub said_more : (Said : ℕ → Type 0) (i k : ℕ) → ((j : ℕ) → i ≤ j → j < k → Said j) → Said k → (j : ℕ) → i ≤ j → j < k + 1 → Said j

@@ -1,7 +1,7 @@
 -- Domain, field check, total.
 use Rattle.std.specs.Prelude.{Bool, true, ◌&&◌, cond, List, [], ◌∷◌, map, ℕ, zero, suc, ◌+◌, ◌-◌, ◌*◌, ◌/◌, ◌%◌, length, eqb, ltb, ℤ, pos, negsuc, neg_ℤ, nat_abs, ◌+ℤ◌, ◌-ℤ◌}
 use Rattle.std.specs.Int.Signed.{le_z}
-use Rattle.lists.specs.Lists.{any, product}
+use Rattle.lists.specs.Lists.{product}
 use Rattle.lists.specs.Integers.{elem_z}
 use Rattle.spec.specs.Spec.{FieldSpec, Free, Ranged, Listed, Spec}
 

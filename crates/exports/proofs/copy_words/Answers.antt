@@ -1,6 +1,5 @@
 -- `exports::copy_words` meets its contract. The invariant: the first i words are copied.
 use mathlib.Core.Path.{◌∙◌, refl, sym}
-use Prim.Native.Nat.{◌-◌}
 use native.Mathlib.Omega.{arith}
 use lib.ListN.{length-set}
 use Rattle.lists.proofs.Filling.{fill_end, fill_turn}

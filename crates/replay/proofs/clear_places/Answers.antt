@@ -1,6 +1,5 @@
 -- `replay::clear_places` meets its contract: it writes within the words, and ends.
 use mathlib.Core.Path.{◌∙◌, refl}
-use Prim.Native.Nat.{◌-◌}
 use native.Mathlib.Omega.{arith}
 use lib.IntN.{pos}
 use lib.ListN.{length-set}

@@ -1,6 +1,5 @@
 -- `compose::filters::clear` meets its contract. The invariant: the first i values are zeros.
 use mathlib.Core.Path.{◌∙◌, refl, sym}
-use Prim.Native.Nat.{◌-◌}
 use native.Mathlib.Omega.{arith}
 use lib.IntN.{pos}
 use lib.ListN.{get_or-replicate, length, length-replicate, length-set, replicate}

@@ -1,7 +1,6 @@
 -- `compose::filters::lay_domain` meets its contract. The invariant: the first i values are those of the domain.
 use lib.IntN.{pos}
 use mathlib.Core.Path.{◌∙◌, ◌≡◌, refl}
-use Prim.Native.Nat.{◌-◌}
 use native.Mathlib.Omega.{arith}
 use borrow.Author.Rules.{sfits_of}
 use lib.ListN.{length-set}

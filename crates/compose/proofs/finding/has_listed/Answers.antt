@@ -1,7 +1,6 @@
 -- `compose::finding::has_listed` meets its contract. The invariant: the value is in the list exactly when it is among those from i on.
 use mathlib.Core.Bool.{Bool, false, true}
 use mathlib.Core.Path.{◌∙◌, ◌≡◌, refl, sym}
-use Prim.Native.Nat.{◌-◌}
 use native.Mathlib.Numerals.{add-one}
 use native.Mathlib.Omega.{arith}
 use borrow.Author.Rules.{sfits_of}

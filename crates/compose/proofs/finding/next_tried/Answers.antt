@@ -1,7 +1,6 @@
 -- `compose::finding::next_tried` meets its contract. The invariant: the index looked for is the first from i on.
 use mathlib.Core.List.{map}
 use mathlib.Core.Path.{◌∙◌, ◌≡◌, ap, refl, sym}
-use Prim.Native.Nat.{◌-◌}
 use native.Mathlib.Numerals.{add-one}
 use native.Mathlib.Omega.{arith}
 use borrow.Author.Rules.{sfits_of}

@@ -3,7 +3,6 @@ use mathlib.Core.Bool.{◌||◌}
 use mathlib.Core.List.{foldl}
 use mathlib.Core.Logic.{inl, inr}
 use mathlib.Core.Path.{◌∙◌, ap, refl, sym}
-use Prim.Native.Nat.{◌-◌}
 use native.Mathlib.Numerals.{add-one}
 use native.Mathlib.Omega.{arith}
 use lib.ListN.{get_or}

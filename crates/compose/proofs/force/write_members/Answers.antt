@@ -1,7 +1,6 @@
 -- `compose::force::write_members` meets its contract. The invariant: the members left, written to the row, give what all of them give.
 use mathlib.Core.List.{foldl}
 use mathlib.Core.Path.{◌∙◌, ◌≡◌, ap, refl, sym}
-use Prim.Native.Nat.{◌-◌}
 use native.Mathlib.Omega.{arith}
 use lib.ListN.{length, length-set}
 use mir.Syntax.{w64}

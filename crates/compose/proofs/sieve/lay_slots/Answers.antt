@@ -1,6 +1,6 @@
 -- `compose::sieve::lay_slots` meets its contract. The invariant: the slots of the values before i are laid.
 use mathlib.Core.Path.{◌∙◌, ap, sym}
-use Prim.Native.Nat.{◌-◌, ℕ}
+use Prim.Native.Nat.{ℕ}
 use native.Mathlib.Omega.{arith}
 use lib.ListN.{length, length-replicate, length-set}
 use Rattle.compose.specs.Code.{remainder_of}

@@ -1,6 +1,6 @@
 -- `evaluate::checks::all_hold` meets its contract. The invariant: all hold exactly when all from j on do.
 use mathlib.Core.Path.{◌∙◌, ◌≡◌, refl, sym}
-use Prim.Native.Nat.{◌-◌, ◌<◌, suc}
+use Prim.Native.Nat.{◌<◌, suc}
 use native.Mathlib.Numerals.{add-one}
 use native.Mathlib.Omega.{arith}
 use lib.ListN.{get_or, length}
@@ -18,7 +18,7 @@ number c = (c.requires.0 c.loop-j.j (omega arith)).1
 tested : (c : After-check)
     → holds_at c.args.file.now c.args.heads.now c.args.row.now (get_or c.args.chosen.now c.loop-j.j 0)
     ≡ c.check.result
-tested c =     sym (rw (add-one (get_or c.args.chosen.now c.loop-j.j 0)) at c.check.ensures)
+tested c = sym (rw (add-one (get_or c.args.chosen.now c.loop-j.j 0)) at c.check.ensures)
 
 pub loop-j-init : goal.loop-j-init
 loop-j-init c = (omega arith, refl)

@@ -1,13 +1,11 @@
 -- `evaluate::checks::failing_field` meets its contract. The invariant: the first that fails is the first of those from f on, behind f others; of the raw row none from f on fails.
 use mathlib.Core.Bool.{Bool, true}
 use mathlib.Core.List.{List}
-use mathlib.Core.Logic.{⊎_elim}
 use mathlib.Core.Path.{◌∙◌, ◌≡◌, ap, ap₂, sym}
 use Prim.Native.Nat.{◌+◌, ◌-◌, suc, ℕ}
 use native.Mathlib.Numerals.{add-one}
 use native.Mathlib.Omega.{arith}
 use borrow.Author.Rules.{sfits_of}
-use borrow.Author.Tests.{not-false}
 use lib.IntN.{pos, ℤ}
 use lib.ListN.{drop, get_or, take}
 use mir.Syntax.{w64}
@@ -26,7 +24,6 @@ use Rattle.evaluate.proofs.checks.failing_field.Goals.{then-row-f+else-not-allow
 use Rattle.evaluate.proofs.checks.failing_field.Goals as goal
 
 module _ (c : In-loop-f) where
-
   abbrev head : ℕ
   head = get_or c.args.fields.now c.loop-f.f 0
 
@@ -105,7 +102,7 @@ passes : (c : Joined-row-f) → allowed (record { before = c.before.before.befor
 passes c raw =
     let i : In-loop-f = record { before = c.before.before.before.before; type_inv = record { fields = c.shared_slice_known-2-1.given; file = c.shared_slice_known-1.given } } in
     elim c.if-row-f.branch [
-      then-row-f+else-not-allows_value u ↦ tested i u.record_at-h.result u.part-values.result.now u.allows_value.result u.record_at-h.ensures.read u.part-values.ensures.records u.allows_value.ensures (sfits_of u.allows_value-arg-1.given) ∙ u.if-not-allows_value.false
+      | then-row-f+else-not-allows_value u ↦ tested i u.record_at-h.result u.part-values.result.now u.allows_value.result u.record_at-h.ensures.read u.part-values.ensures.records u.allows_value.ensures (sfits_of u.allows_value-arg-1.given) ∙ u.if-not-allows_value.false
       | else-row-f u ↦ ap (allows (field_at i.args.file.now (head i) (end i))) (sym (to_z-of_z w64 _ (sfits_of c.t12-1.given)) ∙ ap (to_z w64) u.if-row-f.false ∙ to_z-of_z w64 _ (sfits_of c.t15-1.given)) ∙ raw
     ]
 

@@ -1,5 +1,4 @@
 -- `evaluate::indexing::has_long` meets its contract. The invariant: none of the heads before k − 1 is long.
-use mathlib.Core.Bool.{false}
 use mathlib.Core.Path.{◌∙◌, ◌≡◌, ap, refl, subst, sym}
 use Prim.Native.Nat.{◌+◌, ◌-◌, suc, ℕ}
 use native.Mathlib.Omega.{arith}

@@ -15,7 +15,6 @@ use Rattle.evaluate.proofs.indexing.index_at.Goals as goal
 
 -- the members, as the part of the file that holds them
 module _ (c : After-part) where
-
   abbrev run : List ℕ
   run = c.part.result.now
 

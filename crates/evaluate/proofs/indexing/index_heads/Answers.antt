@@ -1,5 +1,4 @@
 -- `evaluate::indexing::index_heads` meets its contract. The invariant: nothing is indexed from the head before k on.
-use mathlib.Core.Logic.{⊎_elim}
 use mathlib.Core.Path.{◌∙◌, ◌≡◌, refl, subst}
 use Prim.Native.Nat.{◌+◌, ◌-◌, suc, ℕ}
 use native.Mathlib.Omega.{arith}
@@ -57,7 +56,7 @@ loop-k-preserved c =
     let one = l.invariant.0 in
     let e : l.k + 1 - 1 ≡ l.k = omega arith in
     elim c.if-is_long.branch [
-      then-is_long u ↦ rw (u.index-is, u.spare-is, e) (omega arith, u.index_at.auto.index ∙ l.invariant.1, u.index_at.auto.spare ∙ l.invariant.2, u.index_at.ensures.index, u.index_at.ensures.rest)
+      | then-is_long u ↦ rw (u.index-is, u.spare-is, e) (omega arith, u.index_at.auto.index ∙ l.invariant.1, u.index_at.auto.spare ∙ l.invariant.2, u.index_at.ensures.index, u.index_at.ensures.rest)
       | else-is_long u ↦ rw (u.index-is, u.spare-is, e) (omega arith, l.invariant.1, l.invariant.2, l.invariant.3, let b = h.before in unindexed_up l.index _ _ (omega arith) l.invariant.4)
     ]
 

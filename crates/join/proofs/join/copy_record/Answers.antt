@@ -1,6 +1,5 @@
 -- `join::join::copy_record` meets its contract. The invariant: the first j bytes are copied.
 use mathlib.Core.Path.{◌∙◌, ◌≡◌, refl, sym}
-use Prim.Native.Nat.{◌-◌}
 use native.Mathlib.Omega.{arith}
 use lib.ListN.{drop, length, length-drop, length-set, take}
 use lib.Seq.{get_or-drop, get_or-take, length-take-le}

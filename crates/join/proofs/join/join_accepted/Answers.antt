@@ -110,7 +110,7 @@ unfaulted c =
     numbered (record { before = c.before.before; type_inv = record { out = c.slice_known-1.given; second = c.shared_slice_known-2-1.given; first = c.shared_slice_known-1.given } }) ∙ ap (λ (n : ℕ). of joined (refuse n 0)) z
 
 fitting : (c : Else-number-ne0) → (c.args.s.fields + c.args.t.fields ≤ 32) × ((c.args.s.projector_at + c.args.t.projector_at + 1) * 32 ≤ length c.args.out.now)
-fitting c =     number-zero (c.args.s.fields + c.args.t.fields) (c.args.s.constraints + c.args.t.constraints) ((c.args.s.projector_at + c.args.t.projector_at + 1) * 32) (total_by c.args.s.fields c.args.t.fields c.args.s.total c.args.t.total) (length c.args.out.now) (sym c.joined_number-number.ensures ∙ (let z : c.joined_number-number.result ≡ 0 = omega arith in z))
+fitting c = number-zero (c.args.s.fields + c.args.t.fields) (c.args.s.constraints + c.args.t.constraints) ((c.args.s.projector_at + c.args.t.projector_at + 1) * 32) (total_by c.args.s.fields c.args.t.fields c.args.s.total c.args.t.total) (length c.args.out.now) (sym c.joined_number-number.ensures ∙ (let z : c.joined_number-number.result ≡ 0 = omega arith in z))
 
 pub slice_bounds-write_joined-end : goal.slice_bounds-write_joined-end
 slice_bounds-write_joined-end c = (fitting (goal.at.slice_bounds-write_joined-end c).Else-number-ne0).1

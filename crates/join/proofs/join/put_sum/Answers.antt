@@ -1,7 +1,7 @@
 -- `join::join::put_sum` meets its contract. The invariant: the first j bytes are zeros.
 use mathlib.Core.List.{List}
 use mathlib.Core.Path.{◌∙◌, ap, refl, sym}
-use Prim.Native.Nat.{◌-◌, ℕ}
+use Prim.Native.Nat.{ℕ}
 use native.Mathlib.Omega.{arith}
 use lib.ListN.{get_or-replicate, length-set, replicate, set}
 use Rattle.join.proofs.Written.{sum_set}

@@ -1,6 +1,5 @@
 -- Each piece stands right after the one before it; the room is enough since a number and its space take at most 21 bytes.
 use mathlib.Core.List.{[], ◌++◌, ◌∷◌}
-use mathlib.Core.Logic.{⊎_elim}
 use mathlib.Core.Path.{◌∙◌, ◌≡◌, ap, sym}
 use Prim.Native.Nat.{◌-◌}
 use native.Mathlib.Omega.{arith}
@@ -25,7 +24,7 @@ letter-is c =
     let word = word_at c.args.words.now 0 in
     let fits = sfits_of c.t10-1.given in
     elim c.if-words-eq1.branch [
-      then-words-eq1 w ↦ w.letter-is ∙ ap passed_letter (sym (is_one word fits w.if-words-eq1.true))
+      | then-words-eq1 w ↦ w.letter-is ∙ ap passed_letter (sym (is_one word fits w.if-words-eq1.true))
       | else-words-eq1 w ↦ w.letter-is ∙ ap passed_letter (sym (not_one word fits w.if-words-eq1.false))
     ]
 

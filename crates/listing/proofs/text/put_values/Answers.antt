@@ -1,6 +1,6 @@
 -- The invariant: with the text of the numbers to come put, the buffer holds the text of them all.
 use mathlib.Core.Path.{ap, refl}
-use Prim.Native.Nat.{◌+◌, ◌-◌}
+use Prim.Native.Nat.{◌+◌}
 use native.Mathlib.Omega.{arith}
 use borrow.Author.Rules.{sfits_of}
 use lib.IntN.{pos}

@@ -1,6 +1,6 @@
 -- The invariant: the buffer with the rest of the word put is the buffer with the whole word put.
 use mathlib.Core.Path.{◌∙◌, ap, refl, sym}
-use Prim.Native.Nat.{◌+◌, ◌-◌, ℕ}
+use Prim.Native.Nat.{◌+◌, ℕ}
 use native.Mathlib.Nat.{add-zero}
 use native.Mathlib.Omega.{arith}
 use borrow.Author.Rules.{rules}

@@ -1,7 +1,6 @@
 -- `registry::check::has_pair` meets its contract. The invariant: the run has the pair exactly where what is left of it has.
 use mathlib.Core.Bool.{◌&&◌}
 use mathlib.Core.Path.{◌∙◌, ◌≡◌, refl, sym}
-use Prim.Native.Nat.{◌-◌}
 use native.Mathlib.Omega.{arith}
 use borrow.Author.Rules.{sfits_of}
 use mir.Syntax.{w64}

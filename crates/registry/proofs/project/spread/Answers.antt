@@ -1,9 +1,8 @@
 -- `registry::project::spread` meets its contract. The invariant: the word and the axes left give what the start and all axes give.
 use mathlib.Core.List.{List, map}
-use mathlib.Core.Logic.{⊎_elim}
 use mathlib.Core.Option.{some}
 use mathlib.Core.Path.{◌∙◌, ◌≡◌, ap, ap₂, sym}
-use Prim.Native.Nat.{◌*◌, ◌+◌, ◌-◌, ◌/◌, ◌<◌, ◌^◌, ℕ}
+use Prim.Native.Nat.{◌*◌, ◌+◌, ◌/◌, ◌<◌, ◌^◌, ℕ}
 use native.Mathlib.Omega.{arith}
 use borrow.Author.Rules.{sfits_of}
 use lib.IntN.{nat_abs, pos}

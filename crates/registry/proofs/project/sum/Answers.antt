@@ -1,7 +1,7 @@
 -- `registry::project::sum` meets its contract. The invariant: what is added and what is left make up the whole, and f values are at most f × 2^56.
 use mathlib.Core.List.{List}
-use mathlib.Core.Path.{ap, sym, ◌∙◌, ◌≡◌}
-use Prim.Native.Nat.{◌*◌, ◌+◌, ◌-◌, ◌^◌, ◌≤◌}
+use mathlib.Core.Path.{sym, ◌∙◌, ◌≡◌}
+use Prim.Native.Nat.{◌*◌, ◌+◌, ◌^◌, ◌≤◌}
 use native.Mathlib.Omega.{arith}
 use borrow.Author.Rules.{sfits_of}
 use lib.IntN.{+ℤ_idl, ◌+ℤ◌, nat_abs, pos, ℤ}
@@ -12,7 +12,7 @@ use mir.ValLaws.{to_z-of_z}
 use Rattle.lists.specs.Integers.{sum_z}
 use Rattle.lists.proofs.All.{All_at}
 use Rattle.spec.proofs.Multiples.{held, scale_bound}
-use Rattle.registry.proofs.Scale.{small_fits, sum_from, sum_bound, sum_end, sum_more}
+use Rattle.registry.proofs.Scale.{small_fits, sum_bound, sum_end, sum_more}
 use Rattle.registry.proofs.project.sum.Goals.{After-total-1}
 use Rattle.registry.proofs.project.sum.Goals as goal
 

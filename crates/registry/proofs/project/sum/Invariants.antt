@@ -1,10 +1,8 @@
 -- `registry::project::sum` meets its contract. The invariant: what is added and what is left make up the whole, and f values are at most f × 2^56.
 use mathlib.Core.Path.{◌≡◌}
-use Prim.Native.Nat.{◌*◌, ◌+◌, ◌-◌, ◌^◌, ◌≤◌}
+use Prim.Native.Nat.{◌*◌, ◌-◌, ◌^◌, ◌≤◌}
 use lib.IntN.{◌+ℤ◌, nat_abs}
 use lib.ListN.{length}
-use mir.Syntax.{w64}
-use mir.Val.{to_z}
 use Rattle.lists.specs.Integers.{sum_z}
 use Rattle.registry.proofs.Scale.{sum_from}
 use Rattle.registry.proofs.project.sum.Given as goal

@@ -1,6 +1,5 @@
 -- `spec::axes::overlaps_any` meets its contract. The invariant: an axis overlaps exactly where one from i on does.
 use mathlib.Core.Path.{◌∙◌, ◌≡◌, ap, refl, sym}
-use Prim.Native.Nat.{◌-◌}
 use native.Mathlib.Omega.{arith}
 use Rattle.spec.specs.Code.{as_record}
 use Rattle.spec.specs.Record.{record_at}

@@ -1,6 +1,6 @@
 -- `spec::axes::reaches_over` meets its contract. The invariant: an axis reaches over the top exactly where one from i on does.
 use mathlib.Core.Path.{◌∙◌, ◌≡◌, refl, sym}
-use Prim.Native.Nat.{◌+◌, ◌-◌}
+use Prim.Native.Nat.{◌+◌}
 use native.Mathlib.Omega.{arith}
 use lib.Dec.{ltb}
 use borrow.Author.Tests.{le-ltb, lt-ltb}

@@ -1,7 +1,6 @@
 -- `spec::domains::has_p` meets its contract. The invariant: the value is in the run exactly when it is in what is left of it.
 use mathlib.Core.Bool.{◌||◌}
 use mathlib.Core.Path.{◌∙◌, ap₂, refl, sym}
-use Prim.Native.Nat.{◌-◌}
 use native.Mathlib.Omega.{arith}
 use Rattle.spec.proofs.Runs.{eight_here, eight_past}
 use Rattle.spec.proofs.domains.has_p.Goals as goal

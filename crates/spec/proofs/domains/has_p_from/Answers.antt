@@ -1,7 +1,6 @@
 -- `spec::domains::has_p_from` meets its contract. The invariant: the value is in the run from `from` on exactly when it is in what is left of it.
 use mathlib.Core.Bool.{Bool, false, true}
 use mathlib.Core.Path.{◌∙◌, ◌≡◌, ap, refl, sym}
-use Prim.Native.Nat.{◌-◌}
 use native.Mathlib.Omega.{arith}
 use lib.Dec.{eqb}
 use mir.Syntax.{w64}

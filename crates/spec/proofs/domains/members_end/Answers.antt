@@ -1,6 +1,5 @@
 -- `spec::domains::members_end` meets its contract. The invariant: the end is as many records further as there are members from i on.
 use mathlib.Core.Path.{◌∙◌, ◌≡◌, ap, sym}
-use Prim.Native.Nat.{◌-◌}
 use native.Mathlib.Numerals.{add-one}
 use native.Mathlib.Omega.{arith}
 use Rattle.spec.specs.Kind.{is_member, kind_of}

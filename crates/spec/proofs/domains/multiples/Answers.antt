@@ -1,5 +1,5 @@
 -- `spec::domains::multiples` meets its contract. Every number is within ±2^57, so nothing is lost.
-use mathlib.Core.Logic.{inl, inr, ⊎_elim}
+use mathlib.Core.Logic.{inl, inr}
 use mathlib.Core.Path.{◌∙◌, ◌≡◌}
 use Prim.Native.Nat.{◌^◌}
 use native.Mathlib.Omega.{arith}

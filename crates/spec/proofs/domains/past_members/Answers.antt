@@ -1,6 +1,5 @@
 -- `spec::domains::past_members` meets its contract. The invariant: the end is as many records further as there are members from i on.
 use mathlib.Core.Path.{◌∙◌, sym}
-use Prim.Native.Nat.{◌-◌}
 use native.Mathlib.Omega.{arith}
 use Rattle.spec.proofs.Runs.{run_four}
 use Rattle.spec.proofs.domains.past_members.Goals as goal

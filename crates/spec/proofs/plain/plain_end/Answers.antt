@@ -1,7 +1,6 @@
 -- `spec::plain::plain_end` meets its contract. The invariant: the records before k are plain.
 use mathlib.Core.Bool.{true}
 use mathlib.Core.Path.{◌∙◌, ◌≡◌, sym}
-use Prim.Native.Nat.{◌-◌}
 use native.Mathlib.Omega.{arith}
 use Rattle.spec.specs.Code.{InBytes, is_plain}
 use Rattle.spec.specs.Record.{record_at}

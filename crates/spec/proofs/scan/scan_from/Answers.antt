@@ -1,6 +1,6 @@
 -- `spec::scan::scan_from` meets its contract. The invariant: what was left at the start is what is left now.
 use mathlib.Core.Path.{◌∙◌, ◌≡◌, ap, subst, sym}
-use Prim.Native.Nat.{◌-◌, ◌/◌}
+use Prim.Native.Nat.{◌/◌}
 use native.Mathlib.Omega.{arith}
 use lib.ListN.{length}
 use Rattle.spec.specs.Code.{left_at, after_turn, turn_good}

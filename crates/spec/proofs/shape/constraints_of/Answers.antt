@@ -1,6 +1,6 @@
 -- `spec::shape::constraints_of` meets its contract. The invariant: the records before i are gone through.
 use mathlib.Core.Path.{◌∙◌, ◌≡◌, ap, sym}
-use Prim.Native.Nat.{◌-◌, ◌/◌, ◌<◌}
+use Prim.Native.Nat.{◌/◌, ◌<◌}
 use native.Mathlib.Omega.{arith}
 use lib.ListN.{length}
 use Rattle.spec.specs.Kind.{is_constraint, kind_of, section_of}

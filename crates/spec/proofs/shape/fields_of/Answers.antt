@@ -1,7 +1,7 @@
 -- `spec::shape::fields_of` meets its contract. The invariant: the records before i are gone through, and the product so far times that of the fields from i on is the whole, capped.
 use mathlib.Core.Bool.{false, true≢false}
 use mathlib.Core.Path.{◌∙◌, ◌≡◌, ap, ap₂, subst, sym}
-use Prim.Native.Nat.{◌*◌, ◌+◌, ◌-◌, ◌/◌, ◌<◌, suc, ℕ}
+use Prim.Native.Nat.{◌*◌, ◌+◌, ◌/◌, ◌<◌, suc, ℕ}
 use native.Mathlib.Nat.{one-mul}
 use native.Mathlib.Omega.{arith}
 use lib.ListN.{length}
