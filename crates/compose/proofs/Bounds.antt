@@ -18,7 +18,7 @@ use Rattle.spec.specs.Domain.{allows, domain, on_step, too_many, total}
 use Rattle.spec.specs.Kind.{ConstraintKind, Kind, bitmask, constraint, cross, enable_mask, enable_set, eq, even, field, ge, gt, le, lt, member, neq, oneof, projector, range, unknown}
 use Rattle.spec.specs.Record.{Group, Record, assignment_of, constraint_by, constraint_in, constraint_of, decoded, field_by, field_in, field_of, group, groups, records_of, spec_of}
 use Rattle.spec.specs.Refusal.{Context, after, context, file_fault, on_scale}
-use Rattle.spec.specs.Spec.{Assign, Check, ConstraintSpec, Cross, Enable, Eq, FieldAssignment, FieldSpec, Free, Listed, Neq, Ranged, byMask, bySet}
+use Rattle.spec.specs.Spec.{Assign, Check, ConstraintSpec, Cross, Enable, Eq, FieldAssignment, FieldSpec, Free, Listed, Neq, Ranged, by_mask, by_set}
 use Rattle.spec.proofs.Accepted.{decoded-few, decoded-filled, file_good}
 use Rattle.spec.proofs.Domain.{bounded, domain_has}
 use Rattle.spec.proofs.Good.{Good, GoodBy, MembersGood, Whole}
@@ -122,7 +122,7 @@ forced_scaled (◌∷ᴬ◌ {x = c} h t) row a = forced_scaled t (force_by row c
 order-scaled : (engine : Engine) {cs : List ConstraintSpec} → All WritesScaled cs → All WritesScaled (forcing_order engine cs)
 unfolding forcing_order
 order-scaled structural h = h
-order-scaled exhaustive h = All_append (All-filter (enables byMask) h) (All-filter (enables bySet) h)
+order-scaled exhaustive h = All_append (All-filter (enables by_mask) h) (All-filter (enables by_set) h)
 
 -- ---- a file without faults
 members_scaled : (k : Kind) (n : ℕ) (h : Record) (before ms : List Record) → MembersGood k n h before ms → All (λ (m : Record). Scaled m.p) ms

@@ -17,7 +17,7 @@ use Rattle.lists.proofs.Range.{in_range}
 use Rattle.lists.proofs.Tests.{eqb_no, no_ge, or_true, yes_eq, yes_lt}
 use Rattle.spec.specs.Kind.{ConstraintKind, Kind, bitmask, constraint, cross, enable_mask, enable_set, eq, even, field, ge, gt, kind_of, le, lt, member, neq, oneof, projector, range, unknown}
 use Rattle.spec.specs.Record.{Group, Record, constraint_by, constraint_in, constraint_of, group, record_at, record_of}
-use Rattle.spec.specs.Spec.{ConstraintSpec, Enabling, byMask, bySet}
+use Rattle.spec.specs.Spec.{ConstraintSpec, Enabling, by_mask, by_set}
 use Rattle.spec.proofs.Fields.{kind_of_lem}
 use Rattle.registry.specs.Code.{group_in}
 use Rattle.compose.specs.Code.{ChosenFrom, KindAt, chosen_in, code_is, constraints_in, enables_of, groups_from, groups_in, is_enable}
@@ -191,19 +191,19 @@ kind_beyond n h = rw (off 1 tt, off 2 tt, off 3 tt, off 4 tt, off 5 tt, off 6 tt
     off k l = let m = ltb→lt k 34 l in eqb_no n k (omega arith)
 
 -- What kinds 20 and 22 alone decode to.
-marks_code : (n : ℕ) → (marks byMask (kind_of n) ≡ eqb n 20) × (marks bySet (kind_of n) ≡ eqb n 22)
+marks_code : (n : ℕ) → (marks by_mask (kind_of n) ≡ eqb n 20) × (marks by_set (kind_of n) ≡ eqb n 22)
 marks_code n = go (ltb n 34) refl
   where
-    masks : map (λ n. marks byMask (kind_of n)) (upto 34) ≡ map (λ n. eqb n 20) (upto 34)
+    masks : map (λ n. marks by_mask (kind_of n)) (upto 34) ≡ map (λ n. eqb n 20) (upto 34)
     masks = unfold kind_of in refl
 
-    sets : map (λ n. marks bySet (kind_of n)) (upto 34) ≡ map (λ n. eqb n 22) (upto 34)
+    sets : map (λ n. marks by_set (kind_of n)) (upto 34) ≡ map (λ n. eqb n 22) (upto 34)
     sets = unfold kind_of in refl
 
-    go : (b : Bool) → ltb n 34 ≡ b → (marks byMask (kind_of n) ≡ eqb n 20) × (marks bySet (kind_of n) ≡ eqb n 22)
+    go : (b : Bool) → ltb n 34 ≡ b → (marks by_mask (kind_of n) ≡ eqb n 20) × (marks by_set (kind_of n) ≡ eqb n 22)
     go true e =
         let l = yes_lt n 34 e in
-        (in_range (λ n. marks byMask (kind_of n)) (λ n. eqb n 20) 0 34 masks n (omega arith) (omega arith), in_range (λ n. marks bySet (kind_of n)) (λ n. eqb n 22) 0 34 sets n (omega arith) (omega arith))
+        (in_range (λ n. marks by_mask (kind_of n)) (λ n. eqb n 20) 0 34 masks n (omega arith) (omega arith), in_range (λ n. marks by_set (kind_of n)) (λ n. eqb n 22) 0 34 sets n (omega arith) (omega arith))
     go false e =
         let l = no_ge n 34 e in
         rw (kind_beyond n l) (sym (eqb_no n 20 (omega arith)), sym (eqb_no n 22 (omega arith)))
@@ -211,9 +211,9 @@ marks_code n = go (ltb n 34) refl
 -- The constraints that pass a test of what they enable are those of the heads that pass it by their numbers.
 module _ (q : Bool → Bool → Bool) where
   abbrev passing : ConstraintSpec → Bool
-  passing c = q (enables byMask c) (enables bySet c)
+  passing c = q (enables by_mask c) (enables by_set c)
 
-  passing_in : (k : Kind) (h : Record) (ms : List Record) → filter passing (constraint_in k h ms) ≡ cond (q (marks byMask k) (marks bySet k)) (constraint_in k h ms) []
+  passing_in : (k : Kind) (h : Record) (ms : List Record) → filter passing (constraint_in k h ms) ≡ cond (q (marks by_mask k) (marks by_set k)) (constraint_in k h ms) []
   passing_in k h ms = go k
     where
       none : (b : Bool) → ◌≡◌ {A = List ConstraintSpec} [] (cond b [] [])
@@ -224,10 +224,10 @@ module _ (q : Bool → Bool → Bool) where
       one true c = refl
       one false c = refl
 
-      go : (k : Kind) → filter passing (constraint_in k h ms) ≡ cond (q (marks byMask k) (marks bySet k)) (constraint_in k h ms) []
+      go : (k : Kind) → filter passing (constraint_in k h ms) ≡ cond (q (marks by_mask k) (marks by_set k)) (constraint_in k h ms) []
       go field = none (q false false)
       go unknown = none (q false false)
-      go (constraint k) = one (passing (constraint_by k h ms)) (constraint_by k h ms) ∙ ap₂ (λ (m s : Bool). cond (q m s) (constraint_by k h ms ∷ []) []) (marks_all byMask k h ms) (marks_all bySet k h ms)
+      go (constraint k) = one (passing (constraint_by k h ms)) (constraint_by k h ms) ∙ ap₂ (λ (m s : Bool). cond (q m s) (constraint_by k h ms ∷ []) []) (marks_all by_mask k h ms) (marks_all by_set k h ms)
       go (projector k) = none (q false false)
       go (member k) = none (q false false)
 
@@ -244,7 +244,7 @@ module _ (q : Bool → Bool → Bool) where
       here : filter passing (constraint_of (group h ms)) ≡ cond (t (group h ms)) (constraint_of (group h ms)) []
       here =
           passing_in h.kind h ms
-          ∙ ap (λ b. cond b (constraint_of (group h ms)) []) (ap₂ q (ap (marks byMask) e ∙ (marks_code h.code).0) (ap (marks bySet) e ∙ (marks_code h.code).1) ∙ sym (same h ms))
+          ∙ ap (λ b. cond b (constraint_of (group h ms)) []) (ap₂ q (ap (marks by_mask) e ∙ (marks_code h.code).0) (ap (marks by_set) e ∙ (marks_code h.code).1) ∙ sym (same h ms))
 
 or_same : (b : Bool) → (b || b) ≡ b
 or_same true = refl
@@ -261,10 +261,10 @@ enables_exhaustive file heads =
     ap₂ ◌++◌
     (passing_groups (λ m s. m) (code_is 20 20) (λ h ms. or_same (eqb h.code 20)) (groups_coded file heads))
     (passing_groups (λ m s. s) (code_is 22 22) (λ h ms. or_same (eqb h.code 22)) (groups_coded file heads))
-    ∙ sym (filter_append is_enable (filter (enables byMask) cs) (filter (enables bySet) cs)
+    ∙ sym (filter_append is_enable (filter (enables by_mask) cs) (filter (enables by_set) cs)
     ∙ ap₂ ◌++◌
-    (filter_every is_enable (All_imp (λ c (e : enables byMask c ≡ true). ap (λ b. b || enables bySet c) e) (filter-all (enables byMask) cs)))
-    (filter_every is_enable (All_imp (λ c (e : enables bySet c ≡ true). ap (λ b. enables byMask c || b) e ∙ or_true (enables byMask c)) (filter-all (enables bySet) cs))))
+    (filter_every is_enable (All_imp (λ c (e : enables by_mask c ≡ true). ap (λ b. b || enables by_set c) e) (filter-all (enables by_mask) cs)))
+    (filter_every is_enable (All_imp (λ c (e : enables by_set c ≡ true). ap (λ b. enables by_mask c || b) e ∙ or_true (enables by_mask c)) (filter-all (enables by_set) cs))))
   where
     cs : List ConstraintSpec
     cs = constraints_in file heads

@@ -16,7 +16,7 @@ use Rattle.lists.proofs.All.{All, All_at}
 use Rattle.lists.proofs.Tests.{or_split, or_true, yes_eq}
 use Rattle.spec.specs.Kind.{kind_of}
 use Rattle.spec.specs.Record.{Record, assignment_of, constraint_in, constraint_of, record_at, records_of}
-use Rattle.spec.specs.Spec.{Assign, Check, ConstraintSpec, Cross, Enable, Enabling, Eq, FieldAssignment, Neq, byMask, bySet}
+use Rattle.spec.specs.Spec.{Assign, Check, ConstraintSpec, Cross, Enable, Enabling, Eq, FieldAssignment, Neq, by_mask, by_set}
 use Rattle.spec.proofs.Fields.{kind_of_lem, length_records, record_get_d, records_from}
 use Rattle.registry.specs.Check.{value_at}
 use Rattle.registry.specs.Code.{group_in}
@@ -31,8 +31,8 @@ skipped (Check f t) row cs = refl
 skipped (Eq a b) row cs = refl
 skipped (Neq a b) row cs = refl
 skipped (Cross parent child entries) row cs = refl
-skipped (Enable byMask f trigger writes) row cs = refl
-skipped (Enable bySet f trigger writes) row cs = refl
+skipped (Enable by_mask f trigger writes) row cs = refl
+skipped (Enable by_set f trigger writes) row cs = refl
 
 enables_fold : (cs : List ConstraintSpec) (row : List ℤ) → foldl force_by row (filter is_enable cs) ≡ foldl force_by row cs
 enables_fold [] row = refl
@@ -106,15 +106,15 @@ module _ (file : List ℕ) (head end : ℕ) (enable : (eqb (record_at file head)
       kind_is : (n : ℕ) → eqb (record_at file head).code n ≡ true → constraint_of (group_in file head end) ≡ constraint_in (kind_of n) (record_at file head) members
       kind_is n e = ap (λ k. constraint_in k (record_at file head) members) (kind_of_lem file head ∙ ap kind_of (yes_eq (record_at file head).code n e))
 
-      mask : constraint_in (kind_of 20) (record_at file head) members ≡ Enable byMask (record_at file head).a (record_at file head).p (map assignment_of members) ∷ []
+      mask : constraint_in (kind_of 20) (record_at file head) members ≡ Enable by_mask (record_at file head).a (record_at file head).p (map assignment_of members) ∷ []
       mask = unfold kind_of in refl
 
-      set_of : constraint_in (kind_of 22) (record_at file head) members ≡ Enable bySet (record_at file head).a (record_at file head).p (map assignment_of members) ∷ []
+      set_of : constraint_in (kind_of 22) (record_at file head) members ≡ Enable by_set (record_at file head).a (record_at file head).p (map assignment_of members) ∷ []
       set_of = unfold kind_of in refl
 
       go : (b : Bool) → eqb (record_at file head).code 20 ≡ b → (b || eqb (record_at file head).code 22) ≡ true → (e : Enabling) × decoded_as e
-      go true e h = (byMask, kind_is 20 e ∙ mask)
-      go false e h = (bySet, kind_is 22 h ∙ set_of)
+      go true e h = (by_mask, kind_is 20 e ∙ mask)
+      go false e h = (by_set, kind_is 22 h ∙ set_of)
 
   pub enable_no : eq_z (value_at row (record_at file head).a) (record_at file head).p ≡ false
       → (false ≡ is_forced (constraint_of (group_in file head end)) row) × (row ≡ foldl force_by row (constraint_of (group_in file head end)))

@@ -6,7 +6,7 @@ use Prim.Native.Nat.{ℕ}
 use lib.IntN.{ℤ}
 use Rattle.lists.specs.Lists.{filter}
 use Rattle.lists.proofs.Tests.{eqb_no, eqb_yes}
-use Rattle.spec.specs.Spec.{ConstraintSpec, Cross, Entry, byMask, bySet}
+use Rattle.spec.specs.Spec.{ConstraintSpec, Cross, Entry, by_mask, by_set}
 use Rattle.compose.specs.Force.{enables, force, force_by, forcing_order}
 use Rattle.compose.specs.Maps.{keep_by, kept, kept_map, replace_if}
 use Rattle.compose.specs.Tuples.{exhaustive, structural}
@@ -25,6 +25,6 @@ unfolding force forcing_order
 force_structural cs c row = foldl-append force_by row cs (c ∷ [])
 
 -- Exhaustive takes all enable_mask in file order, then all enable_set in file order.
-pub force_exhaustive : (cs : List ConstraintSpec) (row : List ℤ) → force exhaustive cs row ≡ foldl force_by (foldl force_by row (filter (enables byMask) cs)) (filter (enables bySet) cs)
+pub force_exhaustive : (cs : List ConstraintSpec) (row : List ℤ) → force exhaustive cs row ≡ foldl force_by (foldl force_by row (filter (enables by_mask) cs)) (filter (enables by_set) cs)
 unfolding force forcing_order
-force_exhaustive cs row = foldl-append force_by row (filter (enables byMask) cs) (filter (enables bySet) cs)
+force_exhaustive cs row = foldl-append force_by row (filter (enables by_mask) cs) (filter (enables by_set) cs)

@@ -3,7 +3,7 @@ use Rattle.std.specs.Prelude.{Bool, true, false, set, ℤ}
 use mathlib.Core.List.{List, ◌++◌, foldl}
 use Rattle.lists.specs.Lists.{filter}
 use Rattle.lists.specs.Integers.{eq_z}
-use Rattle.spec.specs.Spec.{FieldAssignment, Assign, Enabling, byMask, bySet, ConstraintSpec, Check, Eq, Neq, Cross, Enable}
+use Rattle.spec.specs.Spec.{FieldAssignment, Assign, Enabling, by_mask, by_set, ConstraintSpec, Check, Eq, Neq, Cross, Enable}
 use Rattle.registry.specs.Check.{value_at}
 use Rattle.compose.specs.Tuples.{Engine, structural, exhaustive}
 
@@ -23,10 +23,10 @@ force_by row (Cross parent child entries) = row
 force_by row (Enable e f trigger writes) = write_if (eq_z (value_at row f) trigger) writes row
 
 abbrev pub same_enabling : Enabling → Enabling → Bool
-same_enabling byMask byMask = true
-same_enabling byMask bySet = false
-same_enabling bySet byMask = false
-same_enabling bySet bySet = true
+same_enabling by_mask by_mask = true
+same_enabling by_mask by_set = false
+same_enabling by_set by_mask = false
+same_enabling by_set by_set = true
 
 abbrev pub enables : Enabling → ConstraintSpec → Bool
 enables e (Check f t) = false
@@ -38,7 +38,7 @@ enables e (Enable e' f trigger writes) = same_enabling e e'
 -- Structural takes enable records in file order; exhaustive takes all enable_mask first, then all enable_set.
 unfoldable pub forcing_order : Engine → List ConstraintSpec → List ConstraintSpec
 forcing_order structural cs = cs
-forcing_order exhaustive cs = filter (enables byMask) cs ++ filter (enables bySet) cs
+forcing_order exhaustive cs = filter (enables by_mask) cs ++ filter (enables by_set) cs
 
 unfoldable pub force : Engine → List ConstraintSpec → List ℤ → List ℤ
 force engine cs row = foldl force_by row (forcing_order engine cs)

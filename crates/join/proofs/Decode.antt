@@ -10,7 +10,7 @@ use Rattle.lists.proofs.Lists.{concat_map_append, concat_map_nil, map_append}
 use Rattle.spec.specs.Kind.{ConstraintKind, Kind, Use, bitmask, constraint, cross, enable_mask, enable_set, eq, even, field, ge, gt, is_constraint, is_field, le, lt, member, neq, oneof, projector, range, row_of, unknown}
 use Rattle.spec.specs.Record.{Group, Record, assignment_of, constraint_by, constraint_in, constraint_of, entry_of, field_by, field_in, field_of, group, projector_in, projector_of, spec_of}
 use Rattle.spec.specs.Refusal.{Context, context}
-use Rattle.spec.specs.Spec.{Assign, Check, Cross, Enable, Listed, Oneof, ProjectorSpec, Sum, byMask, bySet}
+use Rattle.spec.specs.Spec.{Assign, Check, Cross, Enable, Listed, Oneof, ProjectorSpec, Sum, by_mask, by_set}
 use Rattle.spec.proofs.Accepted.{constraint_of_other, constraints_of-groups, count-fields, field_of_other, fields_of-groups, is_writing, writer_names}
 use Rattle.spec.proofs.Good.{ConstraintGood, GoodBy, MembersGood, constraint_groups, field_groups, head_is}
 use Rattle.join.specs.Join.{add_if, join_spec, move, move_assignment, moves}
@@ -57,9 +57,9 @@ module _ (n : ℕ) where
   constraint_by-move ge f h ms g = refl
   constraint_by-move oneof f h ms g = ap (λ l. Check (n + h.a) (Oneof l)) (ps_move ms)
   constraint_by-move cross f h ms g = ap (λ l. Cross (n + h.a) (n + h.b) l) (entries_move ms)
-  constraint_by-move enable_mask f h ms g = ap (λ l. Enable byMask (n + h.a) h.p l) (writes_move (constraint enable_mask) f h [] ms refl g)
+  constraint_by-move enable_mask f h ms g = ap (λ l. Enable by_mask (n + h.a) h.p l) (writes_move (constraint enable_mask) f h [] ms refl g)
   constraint_by-move bitmask f h ms g = refl
-  constraint_by-move enable_set f h ms g = ap (λ l. Enable bySet (n + h.a) h.p l) (writes_move (constraint enable_set) f h [] ms refl g)
+  constraint_by-move enable_set f h ms g = ap (λ l. Enable by_set (n + h.a) h.p l) (writes_move (constraint enable_set) f h [] ms refl g)
 
   constraint_in-move : (k : Kind) (c : Context) (h : Record) (ms : List Record) → GoodBy k c h ms → constraint_in k (move_by k n h) (map (move_record n) ms) ≡ map (move n) (constraint_in k h ms)
   constraint_in-move field c h ms g = refl

@@ -9,7 +9,7 @@ use Rattle.lists.specs.Integers.{eq_z}
 use Rattle.lists.specs.Lists.{cons_if, filter}
 use Rattle.lists.proofs.All.{All, All-filter, All_imp, []ᴬ, ◌∷ᴬ◌}
 use Rattle.lists.proofs.Lists.{filter_append, get_d_left, get_d_right, map_ext, set-left, set_right}
-use Rattle.spec.specs.Spec.{Assign, Check, ConstraintSpec, Cross, Enable, Enabling, Eq, FieldAssignment, Neq, byMask, bySet}
+use Rattle.spec.specs.Spec.{Assign, Check, ConstraintSpec, Cross, Enable, Enabling, Eq, FieldAssignment, Neq, by_mask, by_set}
 use Rattle.spec.proofs.Named.{NamesBelow, WritesBelow}
 use Rattle.registry.specs.Check.{holds, value_at}
 use Rattle.compose.specs.Force.{enables, force, force_by, forcing_order, write, write_if}
@@ -134,12 +134,12 @@ unfolding force forcing_order
 force-join structural n v w e h qs = forced_join n v w e h qs
 force-join exhaustive n v w e {rs} h qs =
     let js = rs ++ map (move n) qs in
-    let v' = foldl force_by v (filter (enables byMask) rs) in
-    let w' = foldl force_by w (filter (enables byMask) qs) in
-    foldl-append force_by (v ++ w) (filter (enables byMask) js) (filter (enables bySet) js)
-    ∙ ap (λ (l : List ℤ). foldl force_by l (filter (enables bySet) js)) (phase byMask n v w e h qs)
-    ∙ phase bySet n v' w' (length_forced v (filter (enables byMask) rs) ∙ e) h qs
-    ∙ sym (ap₂ ◌++◌ (foldl-append force_by v (filter (enables byMask) rs) (filter (enables bySet) rs)) (foldl-append force_by w (filter (enables byMask) qs) (filter (enables bySet) qs)))
+    let v' = foldl force_by v (filter (enables by_mask) rs) in
+    let w' = foldl force_by w (filter (enables by_mask) qs) in
+    foldl-append force_by (v ++ w) (filter (enables by_mask) js) (filter (enables by_set) js)
+    ∙ ap (λ (l : List ℤ). foldl force_by l (filter (enables by_set) js)) (phase by_mask n v w e h qs)
+    ∙ phase by_set n v' w' (length_forced v (filter (enables by_mask) rs) ∙ e) h qs
+    ∙ sym (ap₂ ◌++◌ (foldl-append force_by v (filter (enables by_mask) rs) (filter (enables by_set) rs)) (foldl-append force_by w (filter (enables by_mask) qs) (filter (enables by_set) qs)))
 
 pub length-force : (x : Engine) (rs : List ConstraintSpec) (v : List ℤ) → length (force x rs v) ≡ length v
 unfolding force

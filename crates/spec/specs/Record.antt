@@ -4,7 +4,7 @@ use Rattle.std.proofs.Math.Option.{Option, none, some}
 use mathlib.Core.List.{foldl}
 use Rattle.lists.specs.Lists.{concat_map}
 use Rattle.lists.specs.Integers.{little_endian, signed64}
-use Rattle.spec.specs.Spec.{FieldSpec, Free, Ranged, Listed, Range, Even, Lt, Gt, Le, Ge, Oneof, Bitmask, Entry, Pair, Key, FieldAssignment, Assign, byMask, bySet, ConstraintSpec, Check, Eq, Neq, Cross, Enable, AxisSpec, Axis, ProjectorSpec, Sum, Identity, Parity, Decompose, Spec}
+use Rattle.spec.specs.Spec.{FieldSpec, Free, Ranged, Listed, Range, Even, Lt, Gt, Le, Ge, Oneof, Bitmask, Entry, Pair, Key, FieldAssignment, Assign, by_mask, by_set, ConstraintSpec, Check, Eq, Neq, Cross, Enable, AxisSpec, Axis, ProjectorSpec, Sum, Identity, Parity, Decompose, Spec}
 use Rattle.spec.specs.Kind.{ConstraintKind, range, even, eq, neq, lt, gt, le, ge, oneof, cross, enable_mask, bitmask, enable_set, ProjectorKind, sum, identity, parity, decompose, Kind, field, unknown, constraint, projector, member, kind_of, is_member}
 
 -- A record: kind, a, b, five bytes that no kind uses, then p, q, r.
@@ -97,9 +97,9 @@ constraint_by le h ms = Check h.a (Le h.p)
 constraint_by ge h ms = Check h.a (Ge h.p)
 constraint_by oneof h ms = Check h.a (Oneof (map (λ m. m.p) ms))
 constraint_by cross h ms = Cross h.a h.b (map entry_of ms)
-constraint_by enable_mask h ms = Enable byMask h.a h.p (map assignment_of ms)
+constraint_by enable_mask h ms = Enable by_mask h.a h.p (map assignment_of ms)
 constraint_by bitmask h ms = Check h.a (Bitmask (nat_abs h.p) h.q)
-constraint_by enable_set h ms = Enable bySet h.a h.p (map assignment_of ms)
+constraint_by enable_set h ms = Enable by_set h.a h.p (map assignment_of ms)
 
 -- −1 is absent.
 abbrev pub offset_by : ℤ → Option ℕ

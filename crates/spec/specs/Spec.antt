@@ -25,7 +25,7 @@ pub data FieldAssignment : Type 0 where
   Assign : (field : ℕ) (value : ℤ) → FieldAssignment
 
 pub data Enabling : Type 0 where
-  byMask bySet : Enabling
+  by_mask by_set : Enabling
 
 pub data ConstraintSpec : Type 0 where
   Check : (field : ℕ) → Test → ConstraintSpec
