@@ -7,7 +7,8 @@
  * - No pointer is null, also where its length is 0, and each is aligned for
  *   its type. No two arrays of a call overlap.
  * - Nothing is allocated and nothing is kept between calls. Of the stack a
- *   call took at most 411 KiB where a map was long (measured, not proved).
+ *   call took at most 411 KiB where a map was long (measured with an
+ *   older toolchain, not proved).
  * - The status is RULES_ACCEPTED or RULES_REFUSED, or one of the two that
  *   touch nothing: RULES_TOO_SHORT, then RULES_NO_ENGINE, in that order.
  * - After RULES_REFUSED the answer is: refusal number, record (0 for the
