@@ -46,14 +46,7 @@ pub fn read_input<R: Read>(input: &mut R, file: &mut [u8]) -> io::Result<usize>
 }
 
 // Puts the file of that name at the start of `file`, and gives how many bytes. What finds no room is left unread.
-fn read_named<R: Files>(rt: &R, name: &str, file: &mut [u8]) -> io::Result<usize>
-    ensures { IfOk result (λ n. IsPrefixLen n file.new) }
-{
-    let mut input = File::open(rt, name)?;
-    read_full(&mut input, file)
-}
-
-// As `read_named`; a file that cannot be opened or read is None, after a line on standard error with its name and the error.
+// A file that cannot be opened is None, after a line on standard error with its name and the error.
 pub fn read_file<R: Files + Eprint>(
     rt: &R,
     name: &str,
@@ -61,8 +54,8 @@ pub fn read_file<R: Files + Eprint>(
 ) -> io::Result<Option<usize>>
     ensures { IfOk result (λ read. IfSome read (λ n. IsPrefixLen n file.new)) }
 {
-    match read_named(rt, name, file) {
-        Ok(n) => Ok(Some(n)),
+    match File::open(rt, name) {
+        Ok(mut input) => Ok(Some(read_full(&mut input, file)?)),
         Err(error) => {
             eprintln!(rt; "{name}: {error}")?;
             Ok(None)

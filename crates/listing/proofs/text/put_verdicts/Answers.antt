@@ -19,12 +19,12 @@ returns-then-width-lt4 c =
 pub returns-then-words-width : goal.returns-then-words-width
 returns-then-words-width c =
     let args = c.args in
-    let few = lines_over args.count args.width (length args.words.now) (omega (arith, c.if-width-lt4.false)) c.if-words-width.true in
+    let few = lines_over args.count args.width (length args.words.now) (omega arith) c.if-words-width.true in
     rw (not_listed args.out.now args.words.now args.count args.width (inr (inl few))) (record { out_after = refl; value = refl; upper_bound = omega arith })
 
 -- there are as many words
 many : (c : Else-words-width) → c.args.count * c.args.width ≤ length c.args.words.now
-many c = let args = c.args in lines_fit args.count args.width (length args.words.now) (omega (arith, c.if-width-lt4.false)) c.if-words-width.false
+many c = let args = c.args in lines_fit args.count args.width (length args.words.now) (omega arith) c.if-words-width.false
 
 pub overflow_mul-count : goal.overflow_mul-count
 overflow_mul-count c = let h = many (goal.at.overflow_mul-count c).Else-words-width in search rules
@@ -37,7 +37,7 @@ returns-then-out-count c =
 can : (c : Else-out-count) → let args = c.args in can_list args.out.now args.words.now args.count args.width ≡ true
 can c =
     let args = c.args in
-    listed args.out.now args.words.now args.count args.width (omega (arith, c.if-width-lt4.false)) (many (record { before = c.before.before; type_inv = record { out = c.slice_known-1.given } })) (omega (arith, c.if-out-count.false))
+    listed args.out.now args.words.now args.count args.width (omega arith) (many (record { before = c.before.before; type_inv = record { out = c.slice_known-1.given } })) (omega (arith, c.if-out-count.false))
 
 pub put_lines-requires : goal.put_lines-requires
 put_lines-requires c = can (goal.at.put_lines-requires c).Else-out-count
