@@ -8,16 +8,20 @@ use Rattle.spec.specs.Domain.{domain, first_multiple, how_many, step_of}
 use Rattle.spec.specs.Refusal.{Answer, refused, accepted, Context, Refused, refuse, ◌▷◌, on_scale, negative, blank_by, members_fault, groups_fault}
 use Rattle.spec.specs.declared.domains.Rise as code''
 use Rattle.spec.specs.Kind as kinds
-use Rattle.spec.specs.Kind.{section_of, Kind, field, unknown, constraint, projector, member, kind_of, Use, unused, number, natural, own, names, field_row, row_of}
+use Rattle.spec.specs.Kind.{section_of, Kind, field, unknown, constraint, projector, member, kind_of, Use, unused, number, natural, own, names, field_row, row_of, MemberKind, value, item, pair, key, disable, assign, axis, ConstraintKind, range, even, eq, neq, lt, gt, le, ge, oneof, cross, enable_mask, bitmask, enable_set, ProjectorKind, sum, identity, parity, decompose}
 use Rattle.spec.specs.Shape.{Shape}
 use Rattle.spec.specs.Spec.{FieldSpec}
 use Rattle.spec.specs.Record.{Record, record_at, records_of, member_run, groups}
 use Rattle.spec.specs.declared.kinds.Class.{Class}
+use Rattle.spec.specs.declared.kinds.Kind as kind
+use Rattle.spec.specs.declared.kinds.Kind.TheVariants as kinds'
 use Rattle.spec.specs.declared.kinds.Class.TheVariants.{Field, Member, Constraint, Projector, Unknown}
 use Rattle.spec.specs.declared.kinds.Row as code
 use Rattle.spec.specs.declared.records.Record as code'
 use Rattle.spec.specs.declared.judge.Context as code'''
 use Rattle.spec.specs.declared.scan.State as scan
+use Rattle.spec.specs.declared.refusal.Fault.{Fault}
+use Rattle.spec.specs.declared.refusal.Fault.TheVariants as faults
 use Rattle.spec.specs.declared.refusal.Refusal as code⁵
 use Rattle.spec.specs.declared.validate.Shape as code''''
 use Rattle.spec.specs.declared.validate.Validation.{Validation}
@@ -55,6 +59,63 @@ pub record InBytes (m : Record) : Type 0 where
   pub code-low : m.code < 256
   pub a-low : m.a < 256
   pub b-low : m.b < 256
+
+-- The kind that the code's enum stands for, and its number.
+abbrev pub as_kind : kind.Kind → Kind
+as_kind kinds'.Field = field
+as_kind kinds'.Value = member value
+as_kind kinds'.Item = member item
+as_kind kinds'.Pair = member pair
+as_kind kinds'.Key = member key
+as_kind kinds'.Disable = member disable
+as_kind kinds'.Assign = member assign
+as_kind kinds'.Axis = member axis
+as_kind kinds'.Range = constraint range
+as_kind kinds'.Even = constraint even
+as_kind kinds'.Eq = constraint eq
+as_kind kinds'.Neq = constraint neq
+as_kind kinds'.Lt = constraint lt
+as_kind kinds'.Gt = constraint gt
+as_kind kinds'.Le = constraint le
+as_kind kinds'.Ge = constraint ge
+as_kind kinds'.Oneof = constraint oneof
+as_kind kinds'.Cross = constraint cross
+as_kind kinds'.EnableMask = constraint enable_mask
+as_kind kinds'.Bitmask = constraint bitmask
+as_kind kinds'.EnableSet = constraint enable_set
+as_kind kinds'.Sum = projector sum
+as_kind kinds'.Identity = projector identity
+as_kind kinds'.Parity = projector parity
+as_kind kinds'.Decompose = projector decompose
+as_kind (kinds'.Unknown n) = unknown
+
+abbrev pub kind_number : kind.Kind → ℕ
+kind_number kinds'.Field = 1
+kind_number kinds'.Value = 2
+kind_number kinds'.Item = 3
+kind_number kinds'.Pair = 4
+kind_number kinds'.Key = 5
+kind_number kinds'.Disable = 6
+kind_number kinds'.Assign = 7
+kind_number kinds'.Axis = 8
+kind_number kinds'.Range = 10
+kind_number kinds'.Even = 11
+kind_number kinds'.Eq = 12
+kind_number kinds'.Neq = 13
+kind_number kinds'.Lt = 14
+kind_number kinds'.Gt = 15
+kind_number kinds'.Le = 16
+kind_number kinds'.Ge = 17
+kind_number kinds'.Oneof = 18
+kind_number kinds'.Cross = 19
+kind_number kinds'.EnableMask = 20
+kind_number kinds'.Bitmask = 21
+kind_number kinds'.EnableSet = 22
+kind_number kinds'.Sum = 30
+kind_number kinds'.Identity = 31
+kind_number kinds'.Parity = 32
+kind_number kinds'.Decompose = 33
+kind_number (kinds'.Unknown n) = n
 
 abbrev pub class_of : Kind → Class
 class_of field = Field
@@ -199,6 +260,25 @@ pub record Reached (c : Context) (i : ℕ) (st : scan.State) : Type 0 where
 -- What is left to judge from record i, counted from 0, on.
 abbrev pub left_at : List ℕ → scan.State → ℕ → Option Refused
 left_at file st i = left (state_context st) (record_at file st.head) (st.head + 1) (take (i - (st.head + 1)) (drop (st.head + 1) (records_of file))) (drop i (records_of file)) (i + 1)
+
+-- The number of a refusal.
+abbrev pub fault_number : Fault → ℕ
+fault_number faults.WrongLength = 1
+fault_number faults.UnknownKind = 2
+fault_number faults.StrayByte = 3
+fault_number faults.OutOfOrder = 4
+fault_number faults.TooMany = 5
+fault_number faults.NoSuchField = 6
+fault_number faults.OffScale = 7
+fault_number faults.EmptyDomain = 8
+fault_number faults.BadPacking = 9
+fault_number faults.TooLarge = 10
+fault_number faults.ScratchShort = 11
+fault_number faults.CyclicMaps = 12
+fault_number faults.ChildlessKey = 13
+fault_number faults.OutputShort = 14
+fault_number faults.NotEmitted = 15
+fault_number faults.NotASum = 16
 
 abbrev pub as_fault : code⁵.Refusal → Option Refused
 as_fault r = refuse r.number r.record

@@ -1,7 +1,76 @@
 // The kinds of records, and the table of what each uses.
 ghost use Rattle.std.specs.Prelude.{◌≡◌, ◌<◌};
 ghost use Rattle.spec.specs.Kind.{kind_of, row_of, is_member, section_of};
-ghost use Rattle.spec.specs.Code.{class_of, table_row, table_words, code_row};
+ghost use Rattle.spec.specs.Code.{as_kind, class_of, kind_number, table_row, table_words, code_row};
+
+// The kind of a record. A number that is no kind's stays.
+#[derive(Clone, Copy, PartialEq, Eq)]
+pub enum Kind {
+    Field,
+    Value,
+    Item,
+    Pair,
+    Key,
+    Disable,
+    Assign,
+    Axis,
+    Range,
+    Even,
+    Eq,
+    Neq,
+    Lt,
+    Gt,
+    Le,
+    Ge,
+    Oneof,
+    Cross,
+    EnableMask,
+    Bitmask,
+    EnableSet,
+    Sum,
+    Identity,
+    Parity,
+    Decompose,
+    Unknown(u8),
+}
+
+impl From<u8> for Kind {
+    ghost from_gives = { λ code kind. (as_kind kind ≡ kind_of code) × (kind_number kind ≡ code) };
+
+    fn from(code: u8) -> Kind {
+        match code {
+            0 => Kind::Unknown(0),
+            1 => Kind::Field,
+            2 => Kind::Value,
+            3 => Kind::Item,
+            4 => Kind::Pair,
+            5 => Kind::Key,
+            6 => Kind::Disable,
+            7 => Kind::Assign,
+            8 => Kind::Axis,
+            9 => Kind::Unknown(9),
+            10 => Kind::Range,
+            11 => Kind::Even,
+            12 => Kind::Eq,
+            13 => Kind::Neq,
+            14 => Kind::Lt,
+            15 => Kind::Gt,
+            16 => Kind::Le,
+            17 => Kind::Ge,
+            18 => Kind::Oneof,
+            19 => Kind::Cross,
+            20 => Kind::EnableMask,
+            21 => Kind::Bitmask,
+            22 => Kind::EnableSet,
+            23..=29 => Kind::Unknown(code),
+            30 => Kind::Sum,
+            31 => Kind::Identity,
+            32 => Kind::Parity,
+            33 => Kind::Decompose,
+            34..=255 => Kind::Unknown(code),
+        }
+    }
+}
 
 // What a record is.
 #[derive(Clone, Copy)]

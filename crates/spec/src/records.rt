@@ -1,8 +1,9 @@
 // Records, read where they lie in the caller's bytes.
 ghost use Rattle.std.specs.Prelude.{◌≡◌, ◌+◌, ◌/◌, ◌≤◌, ◌<◌, length};
 ghost use Rattle.spec.specs.Record.{record_at};
-ghost use Rattle.spec.specs.Code.{five_at, as_record, lead_of, InBytes};
+ghost use Rattle.spec.specs.Code.{five_at, as_kind, as_record, kind_number, lead_of, InBytes};
 
+use crate::kinds::Kind;
 use crate::numbers::{eight, number_at, small, wide};
 
 // A record: its kind's number, a, b, the five bytes that no kind uses as one number, p, q, r.
@@ -35,6 +36,14 @@ pub fn code_at(file: &[u8], i: usize) -> u8
     ensures { result ≡ (record_at file.now i).code }
 {
     file[i * 32]
+}
+
+pub fn kind_at(file: &[u8], i: usize) -> Kind
+    requires { i < length file.now / 32 }
+    ensures kind { as_kind result ≡ (record_at file.now i).kind }
+    ensures number { kind_number result ≡ (record_at file.now i).code }
+{
+    Kind::from(code_at(file, i))
 }
 
 pub fn a_at(file: &[u8], i: usize) -> usize
