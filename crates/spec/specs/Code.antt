@@ -202,9 +202,12 @@ fault_number faults.OutputShort = 14
 fault_number faults.NotEmitted = 15
 fault_number faults.NotASum = 16
 
+abbrev pub refusal : Fault → ℕ → Refused
+refusal f i = record { number = fault_number f; at = i }
+
 -- The refusal that the code's struct stands for.
 abbrev pub as_refused : code⁵.Refusal → Refused
-as_refused r = record { number = fault_number r.fault; at = r.record }
+as_refused r = refusal r.fault r.record
 
 -- The number of the fault that a record was judged to have; 0 for none.
 abbrev pub number_of : Result (Unit {0}) Fault → ℕ

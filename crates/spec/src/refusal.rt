@@ -1,7 +1,7 @@
 // What a refused call answers.
 ghost use Rattle.std.specs.Prelude.{◌≡◌};
 ghost use Rattle.spec.specs.Refusal.{refuse};
-ghost use Rattle.spec.specs.Code.{as_fault, as_refused, fault_number, number_of};
+ghost use Rattle.spec.specs.Code.{as_fault, as_refused, fault_number, number_of, refusal};
 
 // Why a call is refused, in the order of the numbers that files, listings and other languages have for it.
 #[derive(Clone, Copy, PartialEq, Eq)]
@@ -75,7 +75,7 @@ pub struct Refusal {
 impl Fault {
     // The refusal for this fault of a record, which is counted from 1; 0 for the whole.
     pub fn at(self, number: usize) -> Refusal
-        ensures { as_refused result ≡ record { number = fault_number self; at = number } }
+        ensures { as_refused result ≡ refusal self number }
     {
         Refusal {
             fault: self,
