@@ -11,7 +11,7 @@ use lib.IntN.{pos}
 use lib.ListN.{drop, length, take}
 use Rattle.lists.specs.Integers.{eq_z}
 use Rattle.lists.proofs.Integers.{eq_z_eq}
-use Rattle.lists.proofs.Tests.{and_split, eqb_yes, no_ge, yes_eq, yes_lt}
+use Rattle.lists.proofs.Tests.{and_split, eqb_no, eqb_yes, no_ge, yes_eq, yes_lt}
 use Rattle.spec.specs.Code.{InBytes, is_plain, lead_of, left_at}
 use Rattle.spec.specs.Kind.{Kind, is_member, item, kind_of, member, pair, row_of, value}
 use Rattle.spec.specs.Record.{Record, record_at, records_of}
@@ -29,18 +29,18 @@ said_more Said i k t e j g l = go (ltb j k) refl
     go false q = let s : k ≡ j = omega (arith, no_ge j k q) in subst Said s e
 
 -- What the test of a plain member says.
-record Plain (kind a : ℕ) (paired : Bool) (m : Record) : Type 0 where
+record Plain (kind a : ℕ) (m : Record) : Type 0 where
   code_is : m.code ≡ kind
   a_is : eqb m.a a ≡ true
   b_is : eqb m.b 0 ≡ true
   padding_is : eqb m.padding 0 ≡ true
-  q_is : (paired || eq_z m.q (pos 0)) ≡ true
+  q_is : (eqb (kind + a * 0x100) 4 || eq_z m.q (pos 0)) ≡ true
   r_is : eq_z m.r (pos 0) ≡ true
   p_in : on_scale m.p ≡ true
   q_in : on_scale m.q ≡ true
 
-plain_of : (kind a : ℕ) (paired : Bool) (m : Record) → InBytes m → kind < 256 → a < 256 → is_plain paired (kind + a * 0x100) m ≡ true → Plain kind a paired m
-plain_of kind a paired m b k l e =
+plain_of : (kind a : ℕ) (m : Record) → InBytes m → kind < 256 → a < 256 → is_plain (kind + a * 0x100) m ≡ true → Plain kind a m
+plain_of kind a m b k l e =
     let g = and_split _ (on_scale m.q) e in
     let f = and_split _ (on_scale m.p) g.0 in
     let r = and_split _ (eq_z m.r (pos 0)) f.0 in
@@ -56,38 +56,39 @@ abbrev Passes : Record → Record → Kind → Type 0
 Passes h m k = (is_member k ≡ true) × ((is_member k && eqb (row_of h.kind h.b).list (row_of k m.b).list) ≡ true) × ((n : ℕ) (before : List Record) → first_true 2 (member_tests k n h before m) ≡ 0)
 
 -- Of a list, the plain members are those with these first bytes.
-abbrev pub PlainList : Record → Bool → ℕ → Type 0
-PlainList h paired lead = (m : Record) → m.kind ≡ kind_of m.code → InBytes m → is_plain paired lead m ≡ true → Passes h m m.kind
+abbrev pub PlainList : Record → ℕ → Type 0
+PlainList h lead = (m : Record) → m.kind ≡ kind_of m.code → InBytes m → is_plain lead m ≡ true → Passes h m m.kind
 
 module _ (h : Record) where
   named : (m : Record) (k : Kind) → m.kind ≡ k → Passes h m k → Passes h m m.kind
   named m k e p = subst (Passes h m) (sym e) p
 
-  r_in : (m : Record) {kind a : ℕ} {paired : Bool} → Plain kind a paired m → on_scale m.r ≡ true
+  r_in : (m : Record) {kind a : ℕ} → Plain kind a m → on_scale m.r ≡ true
   r_in m t = ap on_scale (eq_z_eq m.r (pos 0) t.r_is)
 
-  pub value-list : (row_of h.kind h.b).list ≡ 1 → h.a < 256 → PlainList h false (2 + h.a * 0x100)
+  pub value-list : (row_of h.kind h.b).list ≡ 1 → h.a < 256 → PlainList h (2 + h.a * 0x100)
   unfolding kind_of
   value-list e due m read bytes t =
-      let p = plain_of 2 h.a false m bytes (omega arith) due t in
-      named m (member value) (read ∙ ap kind_of p.code_is) (refl, eqb_yes _ _ e, λ n before. rw (p.padding_is, p.a_is, p.b_is, p.q_is, p.r_is, p.p_in, p.q_in, r_in m p))
+      let p = plain_of 2 h.a m bytes (omega arith) due t in
+      let q : eq_z m.q (pos 0) ≡ true = sym (ap (λ (b : Bool). b || eq_z m.q (pos 0)) (eqb_no (2 + h.a * 0x100) 4 (λ z. omega arith))) ∙ p.q_is in
+      named m (member value) (read ∙ ap kind_of p.code_is) (refl, eqb_yes _ _ e, λ n before. rw (p.padding_is, p.a_is, p.b_is, q, p.r_is, p.p_in, p.q_in, r_in m p))
 
-  pub item-list : (row_of h.kind h.b).list ≡ 18 → PlainList h false 3
+  pub item-list : (row_of h.kind h.b).list ≡ 18 → PlainList h 3
   unfolding kind_of
   item-list e m read bytes t =
-      let p = plain_of 3 0 false m bytes (omega arith) (omega arith) t in
+      let p = plain_of 3 0 m bytes (omega arith) (omega arith) t in
       named m (member item) (read ∙ ap kind_of p.code_is) (refl, eqb_yes _ _ e, λ n before. rw (p.padding_is, p.a_is, p.b_is, p.q_is, p.r_is, p.p_in, p.q_in, r_in m p))
 
-  pub pair-list : (row_of h.kind h.b).list ≡ 19 → PlainList h true 4
+  pub pair-list : (row_of h.kind h.b).list ≡ 19 → PlainList h 4
   unfolding kind_of
   pair-list e m read bytes t =
-      let p = plain_of 4 0 true m bytes (omega arith) (omega arith) t in
+      let p = plain_of 4 0 m bytes (omega arith) (omega arith) t in
       named m (member pair) (read ∙ ap kind_of p.code_is) (refl, eqb_yes _ _ e, λ n before. rw (p.padding_is, p.a_is, p.b_is, p.r_is, p.p_in, p.q_in, r_in m p))
 
 -- A plain member leaves what there was to judge.
-module _ (file : List ℕ) (st : State) (paired : Bool) (lead : ℕ) (plain : PlainList (record_at file st.head) paired lead) where
+module _ (file : List ℕ) (st : State) (lead : ℕ) (plain : PlainList (record_at file st.head) lead) where
   abbrev Plainly : ℕ → Type 0
-  Plainly i = (is_plain paired lead (record_at file i) ≡ true) × InBytes (record_at file i)
+  Plainly i = (is_plain lead (record_at file i) ≡ true) × InBytes (record_at file i)
 
   at_plain : (i : ℕ) → st.head < i → i < length file / 32 → Plainly i → left_at file st i ≡ left_at file st (i + 1)
   at_plain i l inside t =

@@ -219,9 +219,9 @@ abbrev pub as_fault : Result (Unit {0}) code⁵.Refusal → Option Refused
 as_fault (Ok x) = none
 as_fault (Err r) = some (as_refused r)
 
--- A member with the first eight bytes given that has no fault; only pairs use q.
-abbrev pub is_plain : Bool → ℕ → Record → Bool
-is_plain paired lead m = eqb (lead_of m) lead && (paired || eq_z m.q (pos 0)) && eq_z m.r (pos 0) && on_scale m.p && on_scale m.q
+-- A member with the first eight bytes given that has no fault; only pairs use q, whose first bytes are 4.
+abbrev pub is_plain : ℕ → Record → Bool
+is_plain lead m = eqb (lead_of m) lead && (eqb lead 4 || eq_z m.q (pos 0)) && eq_z m.r (pos 0) && on_scale m.p && on_scale m.q
 
 -- What a turn leaves.
 abbrev pub after_turn : List ℕ → ℕ → Result scan.State code⁵.Refusal → Option Refused

@@ -6,28 +6,35 @@ ghost use Rattle.spec.specs.Code.{InBytes, is_plain};
 use crate::judge::{is_zero, on_scale};
 use crate::records::{lead_at, p_at, q_at, r_at};
 
-// Record i has the first eight bytes given and no fault: q is 0 but in a pair.
-fn is_plain<const PAIR: bool>(file: &[u8], i: usize, lead: u64) -> bool
+// The first eight bytes of a pair and of an item, as one number; and of a value of field a, but for a.
+pub(crate) const PAIR: u64 = 4;
+
+pub(crate) const ITEM: u64 = 3;
+
+pub(crate) const VALUE: u64 = 2;
+
+// Record i has these first eight bytes and no fault: q is 0 but in a pair.
+fn is_plain(file: &[u8], i: usize, lead: u64) -> bool
     requires { i < length file.now / 32 }
-    ensures test { result ≡ is_plain PAIR lead (record_at file.now i) }
+    ensures test { result ≡ is_plain lead (record_at file.now i) }
     ensures bytes { InBytes (record_at file.now i) }
 {
     let q = q_at(file, i);
     (lead_at(file, i) == lead)
-        & (PAIR | is_zero(q))
+        & ((lead == PAIR) | is_zero(q))
         & is_zero(r_at(file, i))
         & on_scale(p_at(file, i))
         & on_scale(q)
 }
 
 // After the members from record i on of which that is so.
-pub(crate) fn plain_end<const PAIR: bool>(file: &[u8], i: usize, lead: u64) -> usize
+pub(crate) fn plain_end(file: &[u8], i: usize, lead: u64) -> usize
     requires { i ≤ length file.now / 32 }
-    ensures { (i ≤ result) × (result ≤ length file.now / 32) × ((j : ℕ) → i ≤ j → j < result → (is_plain PAIR lead (record_at file.now j) ≡ true) × InBytes (record_at file.now j)) }
+    ensures { (i ≤ result) × (result ≤ length file.now / 32) × ((j : ℕ) → i ≤ j → j < result → (is_plain lead (record_at file.now j) ≡ true) × InBytes (record_at file.now j)) }
 {
     let n = file.len() / 32;
     for k in i..n {
-        if !is_plain::<PAIR>(file, k, lead) {
+        if !is_plain(file, k, lead) {
             return k;
         }
     }

@@ -9,7 +9,7 @@ use crate::context::Context;
 use crate::domains::part;
 use crate::faults::{belongs_to, judge_head, judge_list, judge_member, misfiled_fault};
 use crate::kinds::{List, Section, row_of};
-use crate::plain::plain_end;
+use crate::plain::{ITEM, PAIR, VALUE, plain_end};
 use crate::records::{Record, record_at};
 use crate::refusal::{Fault, Refusal, refuse_at};
 
@@ -92,9 +92,9 @@ fn pass_plain(file: &[u8], state: State, i: usize) -> usize
 {
     let head = record_at(file, state.head);
     match row_of(head.kind, head.b).list {
-        List::Values => plain_end::<false>(file, i, 2 + head.a as u64 * 0x100),
-        List::Items => plain_end::<false>(file, i, 3),
-        List::Entries => plain_end::<true>(file, i, 4),
+        List::Values => plain_end(file, i, VALUE + head.a as u64 * 0x100),
+        List::Items => plain_end(file, i, ITEM),
+        List::Entries => plain_end(file, i, PAIR),
         List::Nothing | List::Disables | List::Assigns | List::Axes => i,
     }
 }

@@ -7,4 +7,4 @@ use Rattle.spec.specs.Record.{record_at}
 use Rattle.spec.proofs.plain.plain_end.Given as goal
 
 abbrev pub invariant-loop-k : goal.invariant-loop-k
-invariant-loop-k g l = (j : ℕ) → l.i ≤ j → j < l.k → (is_plain g.PAIR l.lead (record_at l.file j) ≡ true) × InBytes (record_at l.file j)
+invariant-loop-k l = (j : ℕ) → l.i ≤ j → j < l.k → (is_plain l.lead (record_at l.file j) ≡ true) × InBytes (record_at l.file j)
