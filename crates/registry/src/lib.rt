@@ -5,4 +5,4 @@ pub mod check;
 pub mod project;
 mod radix;
 pub mod sorting;
-mod tests;
+

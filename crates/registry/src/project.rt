@@ -9,7 +9,6 @@ ghost use Rattle.spec.specs.Refusal.{on_scale};
 ghost use Rattle.registry.specs.Project.{plus, digits, at_offset, fitting, packed};
 ghost use Rattle.registry.specs.Code.{as_projection, word_of, digit_of, rest_of, AxisIn, RowIn, ProjectorIn, group_in, project_of};
 
-use crate::tests::is_even;
 use spec::domains::part;
 use spec::numbers::{Value, power, powers};
 use spec::records::{a_at, b_at, code_at, p_at, q_at};
@@ -46,7 +45,7 @@ fn sum(row: &[i64]) -> i64
 fn parity(v: Value) -> i64
     ensures { result ≡ pos (low_bit v.0) }
 {
-    if is_even(v) { 0 } else { 1 }
+    v.0 & 1
 }
 
 // v × 2^k; the top is tested before shifting.
