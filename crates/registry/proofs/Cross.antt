@@ -16,12 +16,15 @@ use Rattle.registry.specs.Check.{is_key, is_pair}
 abbrev pub pairs : ℤ → ℤ → Record → Bool
 pairs v w m = eqb m.code 4 && eq_z v m.p && eq_z w m.q
 
-pub any_pair : (v w : ℤ) (ms : List Record) → any (is_pair v w) (map entry_of ms) ≡ any (pairs v w) ms
-any_pair v w ms = any-map (is_pair v w) entry_of ms ∙ any_ext (All_of (λ m. go m (eqb m.code 4)) ms)
+pub pairs_entry : (v w : ℤ) (m : Record) → pairs v w m ≡ is_pair v w (entry_of m)
+pairs_entry v w m = go (eqb m.code 4)
   where
-    go : (m : Record) (b : Bool) → is_pair v w (cond b (Pair m.p m.q) (Key m.p)) ≡ (b && eq_z v m.p && eq_z w m.q)
-    go m true = refl
-    go m false = refl
+    go : (b : Bool) → (b && eq_z v m.p && eq_z w m.q) ≡ is_pair v w (cond b (Pair m.p m.q) (Key m.p))
+    go true = refl
+    go false = refl
+
+pub any_pair : (v w : ℤ) (ms : List Record) → any (is_pair v w) (map entry_of ms) ≡ any (pairs v w) ms
+any_pair v w ms = any-map (is_pair v w) entry_of ms ∙ any_ext (All_of (λ m. sym (pairs_entry v w m)) ms)
 
 -- A pair's p is a key too.
 pub any_key : (v : ℤ) (ms : List Record) → any (is_key v) (map entry_of ms) ≡ elem_z v (ps_of ms)

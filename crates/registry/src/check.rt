@@ -57,7 +57,10 @@ pub(crate) fn is_pair_at(run: &[u8], i: usize, v: Value, w: Value) -> bool
     requires { i < length run.now / 32 }
     ensures { result ≡ is_pair v.0 w.0 (entry_of (record_at run.now i)) }
 {
-    has_p_at(run, i, v) && has_q_at(run, i, w) && kind_at(run, i) == Kind::Pair
+    match kind_at(run, i) {
+        Kind::Pair => has_p_at(run, i, v) & has_q_at(run, i, w),
+        _ => false,
+    }
 }
 
 // A pair of the run lets parent value v have child value w.
