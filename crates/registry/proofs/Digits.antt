@@ -55,6 +55,9 @@ raised_over v k h l = no_ge (v * 2 ^ k) (2 ^ 63) (shift_fits v k (omega arith) �
 pub held_raised : (n : ℕ) → n < 2 ^ 63 → n % 18446744073709551616 ≡ n
 held_raised n h = omega arith
 
+pub power_held : (k : ℕ) → k < 64 → 1 * 2 ^ k % 18446744073709551616 ≡ 2 ^ k
+power_held k h = in_range (λ k. 1 * 2 ^ k % 18446744073709551616) (λ k. 2 ^ k) 0 64 refl k (omega arith) h
+
 pub offset_absent : (v : ℕ) (offset : ℤ) → lt_z offset (pos 0) ≡ true → word_by true 0 ≡ word_of (at_offset (offset_by offset) v)
 offset_absent v (pos k) e = absurd (let h = yes_lt k 0 e in omega arith)
 offset_absent v (negsuc k) e = refl

@@ -8,13 +8,13 @@ use Rattle.registry.proofs.check.has_pair.Goals as goal
 pub returns-then-is_pair_at : goal.returns-then-is_pair_at
 returns-then-is_pair_at c =
     let l = c.loop-i in
-    let h : pairs c.args.v.0 c.args.w.0 (record_at c.args.run.now l.i) ≡ true = pairs_entry _ _ _ ∙ sym c.is_pair_at.ensures ∙ c.if-is_pair_at.true in
+    let h : pairs c.args.v.0 c.args.w.0 (record_at c.args.run.now l.i) ≡ true = pairs_entry c.args.v.0 c.args.w.0 (record_at c.args.run.now l.i) ∙ sym c.is_pair_at.ensures ∙ c.if-is_pair_at.true in
     sym (any_pair c.args.v.0 c.args.w.0 (records_of c.args.run.now) ∙ sym l.invariant ∙ any-stop (pairs c.args.v.0 c.args.w.0) c.args.run.now l.i (omega arith) h)
 
 pub loop-i-preserved : goal.loop-i-preserved
 loop-i-preserved c =
     let l = c.loop-i in
-    let h : pairs c.args.v.0 c.args.w.0 (record_at c.args.run.now l.i) ≡ false = pairs_entry _ _ _ ∙ sym c.is_pair_at.ensures ∙ c.if-is_pair_at.false in
+    let h : pairs c.args.v.0 c.args.w.0 (record_at c.args.run.now l.i) ≡ false = pairs_entry c.args.v.0 c.args.w.0 (record_at c.args.run.now l.i) ∙ sym c.is_pair_at.ensures ∙ c.if-is_pair_at.false in
     any_more (pairs c.args.v.0 c.args.w.0) c.args.run.now l.i (omega arith) h ∙ l.invariant
 
 pub returns : goal.returns
