@@ -57,8 +57,8 @@ room c e =
     let t = (goal.at.Joined-else-radix-eq0 c).After-p_at-radix in
     elim c.else-radix-eq0.branch [
       | else-radix-eq0-via-then-radix-eq0+else-a_at-rest w ↦
-        let width : w.a_at.result ≡ (m t).a = w.a_at.ensures.0 in
-        rw width at (rw (power_held w.a_at.result (rw width (axis t).width)) at w.if-a_at-rest.false)
+          let width : w.a_at.result ≡ (m t).a = w.a_at.ensures.0 in
+          rw width at (rw (power_held w.a_at.result (rw width (axis t).width)) at w.if-a_at-rest.false)
       | else-radix-eq0-via-else-radix-eq0 w ↦ absurd (w.if-radix-eq0.false (radix-read t ∙ e))
     ]
 
