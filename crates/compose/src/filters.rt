@@ -11,7 +11,7 @@ ghost use Rattle.compose.specs.Maps.{allowed, narrow_by};
 ghost use Rattle.compose.specs.Code.{Answers, constraints_in, fields_in, FieldIn, FieldsIn, HeadsIn, is_ascending, list_places, lists_by, packed_lists};
 
 use crate::finding::{is_ascending, next_item};
-use crate::members::{INDEXED, IndexRoom};
+use crate::members::{INDEXED, ROOM, indexed};
 use registry::check::meets;
 use registry::sorting::IndexedRun;
 use spec::domains::{domain_len, domain_value, has_p, part};
@@ -86,8 +86,8 @@ fn compact_items(list: &mut [i64], run: &[u8]) -> usize
     if !is_worth_index(run.len() / 32, &list[..]) {
         return compact(list, |v| has_p(run, v));
     }
-    let mut room = IndexRoom::new();
-    let items = room.index(run);
+    let mut room = [0usize; ROOM];
+    let items = indexed(run, &mut room);
     if is_ascending(&list[..]) {
         return compact_ascending(list, items);
     }

@@ -28,16 +28,16 @@ pub(crate) trait Members: Copy {
     // How many places there are, and the record at each.
     ghost many: { Self → ℕ };
 
-    ghost record: { Self → ℕ → Record };
+    ghost member: { Self → ℕ → Record };
 
     // Where the pairs of parent value v stand, if it is a key.
     fn places_of(self, v: Value) -> Option<Span>
-        ensures { MatchOption result (any (is_key v.0) (entries self) ≡ false) (λ s. (any (is_key v.0) (entries self) ≡ true) × (s.low ≤ s.high) × (s.high ≤ many self) × ((w : ℤ) → any (is_pair v.0 w) (entries self) ≡ any (pairs_at v.0 w) (map (record self) (between s.low s.high)))) };
+        ensures { MatchOption result (any (is_key v.0) (entries self) ≡ false) (λ s. (any (is_key v.0) (entries self) ≡ true) × (s.low ≤ s.high) × (s.high ≤ many self) × ((w : ℤ) → any (is_pair v.0 w) (entries self) ≡ any (pairs_at v.0 w) (map (member self) (between s.low s.high)))) };
 
     // The child value at place k, if a pair with v stands there.
     fn child_at(self, k: usize, v: Value) -> Option<Value>
         requires { k < many self }
-        ensures { MatchOption result ((w : ℤ) → pairs_at v.0 w (record self k) ≡ false) (λ q. (w : ℤ) → pairs_at v.0 w (record self k) ≡ eq_z w q.0) };
+        ensures { MatchOption result ((w : ℤ) → pairs_at v.0 w (member self k) ≡ false) (λ q. (w : ℤ) → pairs_at v.0 w (member self k) ≡ eq_z w q.0) };
 }
 
 // The child value of record i, if it is a pair with v.
@@ -61,7 +61,7 @@ impl<'a> Members for Run<'a> {
 
     ghost many = { λ m. length m.0.now / 32 };
 
-    ghost record = { λ m. record_at m.0.now };
+    ghost member = { λ m. record_at m.0.now };
 
     fn places_of(self, v: Value) -> Option<Span> {
         if has_p(self.0, v) {
@@ -84,7 +84,7 @@ impl<'a> Members for IndexedRun<'a> {
 
     ghost many = { λ m. length m.places.now };
 
-    ghost record = { λ m. placed m.run.now m.places.now };
+    ghost member = { λ m. placed m.run.now m.places.now };
 
     fn places_of(self, v: Value) -> Option<Span> {
         let span = span_of(self, v);
@@ -151,36 +151,21 @@ pub(crate) fn keys_in(members: IndexedRun) -> usize {
     count
 }
 
-// So many members an index has room for.
+// So many members an index is laid for.
 pub(crate) const INDEXED: usize = 2048;
 
-// Room for an index.
-#[derive(Drop)]
-pub(crate) struct IndexRoom {
-    places: [usize; INDEXED],
-    spare: [usize; INDEXED],
-}
+// Room for such an index, and as much to spare.
+pub(crate) const ROOM: usize = 4096;
 
-impl IndexRoom {
-    pub(crate) fn new() -> IndexRoom {
-        IndexRoom {
-            places: [0; INDEXED],
-            spare: [0; INDEXED],
-        }
-    }
-
-    // The members with their index.
-    pub(crate) fn index<'a>(&'a mut self, run: &'a [u8]) -> IndexedRun<'a>
-        requires { length run.now / 32 ≤ 2048 }
-        ensures { result.run.now ≡ run.now }
-    {
-        let n = run.len() / 32;
-        index_run(run, &mut self.places[..n], &mut self.spare[..n]);
-        IndexedRun {
-            run,
-            places: &self.places[..n],
-        }
-    }
+// The members with their index, which is laid into the room.
+pub(crate) fn indexed<'a>(run: &'a [u8], room: &'a mut [usize; ROOM]) -> IndexedRun<'a>
+    requires { length run.now / 32 ≤ 2048 }
+    ensures { result.run.now ≡ run.now }
+{
+    let n = run.len() / 32;
+    let (places, spare) = room.split_at_mut(n);
+    index_run(run, places, &mut spare[..n]);
+    IndexedRun { run, places }
 }
 
 // So many members are worth an index, where so many values are looked for among them.

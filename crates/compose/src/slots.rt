@@ -1,6 +1,7 @@
 // Slots of a list: a number for each remainder of a division, which says where the values with that remainder stand.
 ghost use Rattle.std.specs.Prelude.{◌≡◌, ◌<◌, replicate};
 ghost use Rattle.compose.specs.Code.{remainder_of, slot_after, slot_in, Slotted, slot_number};
+ghost use Rattle.compose.specs.declared.slots.Slot.TheVariants.{Several};
 
 use spec::numbers::Value;
 
@@ -48,7 +49,8 @@ pub(crate) fn lay_slots(list: &[i64], slots: &mut [u16; REMAINDERS])
 
 // What the slot of a value's remainder says.
 pub(crate) fn slot_of(slots: &[u16; REMAINDERS], w: Value) -> Slot
-    ensures { slot_number result ≡ slot_in slots.now w.0 }
+    ensures number { slot_number result ≡ slot_in slots.now w.0 }
+    ensures full { slot_in slots.now w.0 ≡ 65535 → result ≡ Several }
 {
     let next = usize::from(slots[remainder_of(w)]);
     if next == 0 {
