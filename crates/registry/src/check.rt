@@ -1,9 +1,9 @@
 // The check of a constraint on a row of values: one decision over all kinds.
 ghost use Rattle.std.specs.Prelude.{◌≡◌, ◌≢◌, true, map, suc, ◌+◌, ◌-◌, ◌/◌, ◌≤◌, ◌<◌, drop, eqb, get_or, length, take, MatchOption};
-ghost use Rattle.lists.specs.Integers.{elem_z};
+ghost use Rattle.lists.specs.Integers.{elem_z, eq_z};
 ghost use Rattle.lists.specs.Lists.{all, any};
 ghost use Rattle.spec.specs.Code.{as_kind, ps_of};
-ghost use Rattle.spec.specs.Record.{records_of, entry_of, constraint_of};
+ghost use Rattle.spec.specs.Record.{records_of, record_at, entry_of, constraint_of};
 ghost use Rattle.registry.specs.Check.{is_pair, cross_allows, holds};
 ghost use Rattle.registry.specs.Index.{IndexIn};
 ghost use Rattle.registry.specs.Code.{test_in, passes, mask_in, group_in, HeadIn};
@@ -36,12 +36,39 @@ pub fn meets(kind: Kind, p: i64, q: i64, run: &[u8], v: Value) -> bool
     }
 }
 
+// The p of record i is the value.
+pub(crate) fn has_p_at(run: &[u8], i: usize, v: Value) -> bool
+    requires { i < length run.now / 32 }
+    ensures { result ≡ eq_z v.0 (record_at run.now i).p }
+{
+    p_at(run, i) == v.0
+}
+
+// The q of record i is the value.
+pub(crate) fn has_q_at(run: &[u8], i: usize, w: Value) -> bool
+    requires { i < length run.now / 32 }
+    ensures { result ≡ eq_z w.0 (record_at run.now i).q }
+{
+    q_at(run, i) == w.0
+}
+
+// Record i is the pair of v and w.
+pub(crate) fn is_pair_at(run: &[u8], i: usize, v: Value, w: Value) -> bool
+    requires { i < length run.now / 32 }
+    ensures { result ≡ is_pair v.0 w.0 (entry_of (record_at run.now i)) }
+{
+    match kind_at(run, i) {
+        Kind::Pair => has_p_at(run, i, v) & has_q_at(run, i, w),
+        _ => false,
+    }
+}
+
 // A pair of the run lets parent value v have child value w.
 pub fn has_pair(run: &[u8], v: Value, w: Value) -> bool
     ensures { result ≡ any (is_pair v.0 w.0) (map entry_of (records_of run.now)) }
 {
     for i in 0..run.len() / 32 {
-        if (p_at(run, i) == v.0) & (q_at(run, i) == w.0) && kind_at(run, i) == Kind::Pair {
+        if is_pair_at(run, i, v, w) {
             return true;
         }
     }
