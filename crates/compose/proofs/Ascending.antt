@@ -3,13 +3,17 @@ use mathlib.Core.Bool.{Bool, ◌&&◌, ◌||◌, cond, false, not, true, true≢
 use mathlib.Core.List.{List, [], ◌∷◌, map}
 use mathlib.Core.Path.{◌∙◌, ◌≡◌, ap, ap₂, refl, sym}
 use Prim.Native.Nat.{◌+◌, ◌-◌, ◌<◌, ◌≤◌, suc, zero, ℕ}
-use native.Mathlib.Nat.{add-suc, add-zero, sub-zero}
+use native.Mathlib.Nat.{add-suc, add-zero}
+use native.Mathlib.Numerals.{add-one}
 use native.Mathlib.Omega.{arith}
 use lib.Dec.{ltb}
 use lib.IntN.{nat_abs, negsuc, pos, ℤ}
-use lib.ListN.{drop, get_or, length, length-drop}
-use lib.Seq.{get_or-drop}
+use lib.ListN.{drop, get_or, length, length-drop, take}
+use lib.Seq.{get_or-drop, take_all}
+use Rattle.std.proofs.lemmas.List.{get_or_default}
 use lib.Signed.{le_z, lt_z}
+use Rattle.std.specs.List.{IsEachAdjacentAnswer}
+use Rattle.std.specs.List.Sorted.{IsPartitionPoint, IsPartitionedBy}
 use Rattle.lists.specs.Integers.{elem_z, eq_z}
 use Rattle.lists.specs.Lists.{all, any, span, upto}
 use Rattle.lists.proofs.All.{All-all, All-upto, all-All, upto-All}
@@ -26,7 +30,6 @@ use Rattle.compose.specs.Walk.{least}
 use Rattle.compose.proofs.Narrowing.{is_item}
 use Rattle.compose.proofs.Prune.{least_is}
 use Rattle.compose.proofs.Spanned.{apart}
-use Rattle.compose.proofs.Stepping.{all_end, all_more, all-stop}
 use Rattle.compose.proofs.Turns.{least_end, least_more, least-stop}
 
 -- ---- order
@@ -39,6 +42,16 @@ le_trans a b c h k =
     let d = yes_le (up n a) (up n b) (sym (up_le n a b x y) ∙ h) in
     let e = yes_le (up n b) (up n c) (sym (up_le n b c y z) ∙ k) in
     up_le n a c x z ∙ leb_yes (up n a) (up n c) (omega arith)
+
+lt_trans_le : (a b c : ℤ) → le_z a b ≡ true → lt_z b c ≡ true → lt_z a c ≡ true
+lt_trans_le a b c h k =
+    let n = nat_abs a + nat_abs b + nat_abs c in
+    let x = over_of n a (omega arith) in
+    let y = over_of n b (omega arith) in
+    let z = over_of n c (omega arith) in
+    let d = yes_le (up n a) (up n b) (sym (up_le n a b x y) ∙ h) in
+    let e = yes_lt (up n b) (up n c) (sym (up_lt n b c y z) ∙ k) in
+    up_lt n a c x z ∙ ltb_yes (up n a) (up n c) (omega arith)
 
 -- `<` is the other test, the other way round
 pub lt_not : (v w : ℤ) → lt_z v w ≡ not (le_z w v)
@@ -72,29 +85,6 @@ module _ (l : List ℤ) where
   abbrev pub rises : ℕ → Bool
   rises k = le_z (get_or l k (pos 0)) (get_or l (suc k) (pos 0))
 
-  -- it holds of those from number i - 1 on
-  abbrev pub rises_from : ℕ → Bool
-  rises_from i = all rises (span (i - 1) (length l - 1 - (i - 1)))
-
-  pub rises_all : rises_from 1 ≡ is_ascending l
-  rises_all = ap (λ (n : ℕ). all rises (span 0 n)) (sub-zero (length l - 1))
-
-  rises_at_lem : (i : ℕ) → 0 < i → le_z (get_or l (i - 1) (pos 0)) (get_or l i (pos 0)) ≡ rises (i - 1)
-  rises_at_lem i h = let e : i ≡ suc (i - 1) = omega arith in ap (λ (j : ℕ). le_z (get_or l (i - 1) (pos 0)) (get_or l j (pos 0))) e
-
-  module _ (i : ℕ) (low : 0 < i) where
-    pub rises_stop : i < length l → lt_z (get_or l i (pos 0)) (get_or l (i - 1) (pos 0)) ≡ true → rises_from i ≡ false
-    rises_stop h e = all-stop rises (length l - 1) (i - 1) (omega arith) (sym (rises_at_lem i low) ∙ lt_nle (get_or l i (pos 0)) (get_or l (i - 1) (pos 0)) e)
-
-    pub rises_more : i < length l → lt_z (get_or l i (pos 0)) (get_or l (i - 1) (pos 0)) ≡ false → rises_from i ≡ rises_from (i + 1)
-    rises_more h e =
-        let k : suc (i - 1) ≡ i + 1 - 1 = omega arith in
-        all_more rises (length l - 1) (i - 1) (omega arith) (sym (rises_at_lem i low) ∙ nlt_le (get_or l i (pos 0)) (get_or l (i - 1) (pos 0)) e)
-        ∙ ap (λ (j : ℕ). all rises (span j (length l - 1 - j))) k
-
-    pub rises_end : length l ≤ i → rises_from i ≡ true
-    rises_end h = all_end rises (length l - 1) (i - 1) (omega arith)
-
   -- ---- a list that ascends
   module _ (up : is_ascending l ≡ true) where
     rising : (i d : ℕ) → i + d < length l → le_z (get_or l i (pos 0)) (get_or l (i + d) (pos 0)) ≡ true
@@ -108,6 +98,20 @@ module _ (l : List ℤ) where
 
     pub since : (i j : ℕ) → i ≤ j → j < length l → lt_z (get_or l j (pos 0)) (get_or l i (pos 0)) ≡ false
     since i j a b = lt_not (get_or l j (pos 0)) (get_or l i (pos 0)) ∙ ap not (ascending i j a b)
+
+-- What a comparison of each value with the next answers.
+module _ (le : ℤ → ℤ → Bool) (same : (x y : ℤ) → le x y ≡ le_z x y) (l : List ℤ) where
+  pub ascending_is : (r : Bool) → IsEachAdjacentAnswer (λ x y b. le x y ≡ b) l r → r ≡ is_ascending l
+  ascending_is true h =
+      sym (All-all (rises l) (upto-All (length l - 1) (λ k b. sym (same (get_or l k (pos 0)) (get_or l (suc k) (pos 0))) ∙ rw add-one at (h k (pos 0) (omega arith)).1)))
+  ascending_is false h = go (is_ascending l) refl
+    where
+      go : (b : Bool) → is_ascending l ≡ b → false ≡ b
+      go false e = refl
+      go true e =
+          let k = h.0 in
+          let no : le_z (get_or l k (pos 0)) (get_or l (k + 1) (pos 0)) ≡ false = sym (same (get_or l k (pos 0)) (get_or l (k + 1) (pos 0))) ∙ (h.2 (pos 0)).1 in
+          sym no ∙ ascending l e k (k + 1) (omega arith) h.1
 
 -- What is left of a list that ascends does too.
 pub ascending_drop : (l : List ℤ) → is_ascending l ≡ true → (a : ℕ) → is_ascending (drop a l) ≡ true
@@ -157,58 +161,50 @@ module _ (l : List ℤ) (w : ℤ) where
             let s : j ≡ i = omega arith in
             ap (λ (m : ℕ). lt_z (get_or l m (pos 0)) w) s ∙ here
 
--- From `low` on it is the same index as from `from` on, and it is not above `high`.
-pub record Between (l : List ℤ) (w : ℤ) (from low high : ℕ) : Type 0 where
-  pub low_le : low ≤ high
-  pub high_le : high ≤ length l
-  pub stops : high < length l → not_below l w high ≡ true
-  pub same : least (not_below l w) low (length l - low) ≡ least (not_below l w) from (length l - from)
+-- the point at which the values from `from` on are no longer below w
+module _ (l : List ℤ) (w : ℤ) (from : ℕ) (inside : from ≤ length l) where
+  abbrev rest : List ℤ
+  rest = take (length l - from) (drop from l)
 
-module _ (l : List ℤ) (w : ℤ) (from : ℕ) where
-  pub between_all : from ≤ length l → Between l w from from (length l)
-  between_all h = record { low_le = h; high_le = omega arith; stops = λ k. absurd (omega arith); same = refl }
+  rest_is : rest ≡ drop from l
+  rest_is = take_all (length l - from) (drop from l) (omega (arith, length-drop from l))
 
-  module _ (low high mid : ℕ) (h : Between l w from low high) (above : low ≤ mid) (inside : mid < high) where
-    pub between_up : is_ascending l ≡ true → lt_z (get_or l mid (pos 0)) w ≡ true → Between l w from (mid + 1) high
-    between_up up t = record {
-      low_le = omega arith;
-      high_le = h.high_le;
-      stops = h.stops;
-      same = sym (least_past (not_below l w) (length l) low (mid + 1) (omega arith) (omega (arith, h.high_le)) (λ k a b. go k (omega arith) (not_below l w k) refl)) ∙ h.same;
-    }
-      where
-        go : (k : ℕ) → k ≤ mid → (b : Bool) → not_below l w k ≡ b → b ≡ false
-        go k a true e =
-            let s = le_trans w (get_or l k (pos 0)) (get_or l mid (pos 0)) e (ascending l up k mid a (omega (arith, h.high_le))) in
-            sym s ∙ lt_nle (get_or l mid (pos 0)) w t
-        go k a false e = refl
+  rest_long : length rest ≡ length l - from
+  rest_long = ap length rest_is ∙ length-drop from l
 
-    pub between_down : lt_z (get_or l mid (pos 0)) w ≡ false → Between l w from low mid
-    between_down t = record {
-      low_le = above;
-      high_le = omega (arith, h.high_le);
-      stops = λ k. nlt_le (get_or l mid (pos 0)) w t;
-      same = h.same;
-    }
+  rest_at : (j : ℕ) → get_or rest j (pos 0) ≡ get_or l (from + j) (pos 0)
+  rest_at j = ap (λ (r : List ℤ). get_or r j (pos 0)) rest_is ∙ get_or-drop from l j (pos 0)
 
-  pub between_end : (low high : ℕ) → Between l w from low high → high ≤ low → low ≡ least (not_below l w) from (length l - from)
-  between_end low high h g = go (ltb low (length l)) refl ∙ h.same
+  pub parted : is_ascending l ≡ true → IsPartitionedBy (λ (y : ℤ). lt_z y w) rest
+  parted up i j d a b t =
+      let e = get_or_default rest i d (pos 0) (omega arith) ∙ rest_at i in
+      let f = get_or_default rest j d (pos 0) b ∙ rest_at j in
+      ap (λ (x : ℤ). lt_z x w) e
+      ∙ lt_trans_le (get_or l (from + i) (pos 0)) (get_or l (from + j) (pos 0)) w (ascending l up (from + i) (from + j) (omega arith) (omega (arith, rest_long))) (ap (λ (x : ℤ). lt_z x w) (sym f) ∙ t)
+
+  pub point_is : (i : ℕ) → i ≤ length rest → IsPartitionPoint (λ (y : ℤ). lt_z y w ≡ true) (λ (y : ℤ). lt_z y w ≡ false) rest i → from + i ≡ least (not_below l w) from (length l - from)
+  point_is i h p =
+      sym (least_past (not_below l w) (length l) from (from + i) (omega arith) (omega (arith, rest_long)) before ∙ stop (ltb (from + i) (length l)) refl)
     where
-      here : high ≡ low
-      here = omega (arith, h.low_le)
+      before : (k : ℕ) → from ≤ k → k < from + i → not_below l w k ≡ false
+      before k a b =
+          let e : from + (k - from) ≡ k = omega arith in
+          lt_nle (get_or l k (pos 0)) w (ap (λ (j : ℕ). lt_z (get_or l j (pos 0)) w) (sym e) ∙ ap (λ (x : ℤ). lt_z x w) (sym (rest_at (k - from))) ∙ p.0 (k - from) (pos 0) (omega arith) (omega arith))
 
-      go : (b : Bool) → ltb low (length l) ≡ b → low ≡ least (not_below l w) low (length l - low)
-      go true e = let i = yes_lt low (length l) e in sym (least-stop (not_below l w) (length l) low i (ap (not_below l w) (sym here) ∙ h.stops (omega (arith, here))))
-      go false e = sym (least_end (not_below l w) (length l) low (no_ge low (length l) e))
+      stop : (b : Bool) → ltb (from + i) (length l) ≡ b → least (not_below l w) (from + i) (length l - (from + i)) ≡ from + i
+      stop true e =
+          let g = yes_lt (from + i) (length l) e in
+          least-stop (not_below l w) (length l) (from + i) g (nlt_le (get_or l (from + i) (pos 0)) w (ap (λ (x : ℤ). lt_z x w) (sym (rest_at i)) ∙ p.1 i (pos 0) (omega arith) (omega (arith, rest_long))))
+      stop false e = least_end (not_below l w) (length l) (from + i) (no_ge (from + i) (length l) e)
 
 -- ---- a value of the list, by the first index whose value is not below it
 module _ (w : ℤ) where
-  elem_at : (l : List ℤ) (k : ℕ) → k < length l → eq_z w (get_or l k (pos 0)) ≡ true → elem_z w l ≡ true
+  pub elem_at : (l : List ℤ) (k : ℕ) → k < length l → eq_z w (get_or l k (pos 0)) ≡ true → elem_z w l ≡ true
   elem_at [] k h e = absurd (omega arith)
   elem_at (x ∷ l) zero h e = ap (λ (b : Bool). b || elem_z w l) e
   elem_at (x ∷ l) (suc k) h e = ap (λ (b : Bool). eq_z w x || b) (elem_at l k (omega arith) e) ∙ or_true (eq_z w x)
 
-  elem_no : (l : List ℤ) → ((k : ℕ) → k < length l → eq_z w (get_or l k (pos 0)) ≡ false) → elem_z w l ≡ false
+  pub elem_no : (l : List ℤ) → ((k : ℕ) → k < length l → eq_z w (get_or l k (pos 0)) ≡ false) → elem_z w l ≡ false
   elem_no [] h = refl
   elem_no (x ∷ l) h = ap₂ ◌||◌ (h 0 (omega arith)) (elem_no l (λ k m. h (suc k) (omega arith)))
 

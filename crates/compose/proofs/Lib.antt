@@ -8,8 +8,7 @@ pub mod Emitted
 pub mod Prune
 pub mod Turns
 pub mod Rows
-pub mod Sieved
-pub mod Slots
+pub mod Slotting
 pub mod Walk
 pub mod Found
 pub mod Stuck

@@ -1,27 +1,27 @@
 -- What the places of the records whose p is v give.
-use mathlib.Core.Bool.{Bool, ◌&&◌, ◌||◌, and-true, false, true}
+use mathlib.Core.Bool.{Bool, ◌&&◌, ◌||◌, false, true}
 use mathlib.Core.List.{List, [], ◌∷◌, map}
 use mathlib.Core.Path.{◌∙◌, ◌≡◌, ap, ap₂, refl, sym}
-use Prim.Native.Nat.{◌+◌, ◌-◌, ◌<◌, ◌≤◌, suc, ℕ}
+use Prim.Native.Nat.{◌+◌, ◌-◌, ◌<◌, ◌≤◌, suc, zero, ℕ}
 use native.Mathlib.Omega.{arith}
 use lib.Dec.{eqb, ltb}
 use lib.IntN.{nat_abs, ℤ}
 use lib.ListN.{drop, get_or, length, length-drop, take}
-use lib.Seq.{drop-drop, get_or-drop, get_or-take, length-take-le}
+use lib.Seq.{drop-cons, drop-drop, get_or-drop, get_or-take, length-take-le}
 use lib.Signed.{lt_z}
 use Rattle.lists.proofs.Integers.{eq_z-refl, over_of, up, up_eq, up_lt}
 use Rattle.lists.proofs.Lists.{any-map}
 use Rattle.lists.proofs.Tests.{and-false, eqb_no, ltb_no, no_ge, or_false, yes_lt}
 use Rattle.lists.specs.Integers.{elem_z, eq_z}
-use Rattle.lists.specs.Lists.{any}
+use Rattle.lists.specs.Lists.{any, span}
 use Rattle.spec.specs.Code.{ps_of}
 use Rattle.spec.specs.Record.{Record, entry_of, record_at, records_of}
-use Rattle.registry.proofs.Cross.{any_pair, pairs}
+use Rattle.registry.proofs.Cross.{any_pair}
 use Rattle.registry.proofs.Halves.{any_halves}
 use Rattle.registry.proofs.Looked.{any_get, any_no, eq_z-sym}
 use Rattle.registry.specs.Check.{is_pair}
 use Rattle.registry.specs.Index.{Bracket, Indexed, Spans, placed}
-use Rattle.compose.specs.Code.{pairs_with}
+use Rattle.compose.specs.Code.{between, pairs_at}
 
 -- Of two numbers the first is below the other.
 pub apart : (v w : ℤ) → lt_z v w ≡ true → (lt_z w v ≡ false) × (eq_z w v ≡ false)
@@ -32,11 +32,12 @@ apart v w h =
     let l = yes_lt (up n v) (up n w) (sym (up_lt n v w x y) ∙ h) in
     (up_lt n w v y x ∙ ltb_no (up n w) (up n v) (omega arith), up_eq n w v y x ∙ eqb_no (up n w) (up n v) (λ e. omega arith))
 
--- ---- tests of the records at places
-module _ (f : ℕ → Record) where
-  alike : (a b : Record → Bool) (l : List ℕ) → ((m : ℕ) → m < length l → a (f (get_or l m 0)) ≡ b (f (get_or l m 0))) → any a (map f l) ≡ any b (map f l)
-  alike a b [] h = refl
-  alike a b (y ∷ l) h = ap₂ ◌||◌ (h 0 (omega arith)) (alike a b l (λ m k. h (suc m) (omega arith)))
+-- The records at some of the places, by the numbers of these.
+records-between : (f : ℕ → Record) (places : List ℕ) (low n : ℕ) → low + n ≤ length places → map f (take n (drop low places)) ≡ map (λ k. f (get_or places k 0)) (span low n)
+records-between f places low zero h = refl
+records-between f places low (suc n) h =
+    ap (λ (l : List ℕ). map f (take (suc n) l)) (drop-cons places low 0 (omega arith))
+    ∙ ap (λ (rs : List Record). f (get_or places low 0) ∷ rs) (records-between f places (suc low) n (omega arith))
 
 module _ (run places : List ℕ) (v : ℤ) (low high : ℕ) (s : Spans run places v low high) where
   abbrev at : ℕ → Record
@@ -61,7 +62,7 @@ module _ (run places : List ℕ) (v : ℤ) (low high : ℕ) (s : Spans run place
   after-span k l m = eq_z-sym v (at k).p ∙ (apart v (at k).p (s.above k l m)).1
 
   -- as a test asks for p v, only the places of the span count
-  module _ (x : Indexed run places) (a b : Record → Bool) (other : (r : Record) → eq_z v r.p ≡ false → a r ≡ false) (its : (r : Record) → eq_z v r.p ≡ true → a r ≡ b r) where
+  module _ (x : Indexed run places) (a : Record → Bool) (other : (r : Record) → eq_z v r.p ≡ false → a r ≡ false) where
     abbrev here : List ℕ → Bool
     here l = any a (map (record_at run) l)
 
@@ -74,26 +75,19 @@ module _ (run places : List ℕ) (v : ℤ) (low high : ℕ) (s : Spans run place
         ap here (drop-drop (high - low) low places ∙ ap (λ (n : ℕ). drop n places) e)
         ∙ any_no a (record_at run) (drop high places) (λ m l. rw (get_or-drop high places m 0) (other (at (high + m)) (after-span (high + m) (omega arith) (omega (arith, length-drop high places)))))
 
-    middle : here (take (high - low) (drop low places)) ≡ any b (map (record_at run) (take (high - low) (drop low places)))
-    middle = alike (record_at run) a b (take (high - low) (drop low places)) (λ m l.
-        let k : m < high - low = omega (arith, length-take-le (high - low) (drop low places) (omega (arith, length-drop low places, s.high_le))) in
-        rw (get_or-take (high - low) (drop low places) m 0 k, get_or-drop low places m 0) (its (at (low + m)) (in_span (low + m) (omega arith) (omega arith))))
-
-    span-any : any a (records_of run) ≡ any b (map (record_at run) (take (high - low) (drop low places)))
+    span-any : any a (records_of run) ≡ any a (map (placed run places) (between low high))
     span-any =
         sym (x.whole a)
         ∙ any_halves a run places low
-        ∙ ap₂ ◌||◌ first (any_halves a run (drop low places) (high - low) ∙ ap₂ ◌||◌ middle last ∙ or_false _)
+        ∙ ap₂ ◌||◌ first (any_halves a run (drop low places) (high - low) ∙ ap (λ (b : Bool). here (take (high - low) (drop low places)) || b) last ∙ or_false _)
+        ∙ ap (any a) (records-between (record_at run) places low (high - low) (omega (arith, s.low_le, s.high_le)))
 
-  -- v and w are a pair exactly where the record at a place of the span is one with w.
-  pub span_pairs : Indexed run places → (w : ℤ) → any (is_pair v w) (map entry_of (records_of run)) ≡ any (pairs_with w) (map (record_at run) (take (high - low) (drop low places)))
-  span_pairs x w = any_pair v w (records_of run) ∙ span-any x (pairs v w) (pairs_with w) other its
+  -- v and w are a pair exactly where the record at a place of the span is one.
+  pub span_pairs : Indexed run places → (w : ℤ) → any (is_pair v w) (map entry_of (records_of run)) ≡ any (pairs_at v w) (map (placed run places) (between low high))
+  span_pairs x w = any_pair v w (records_of run) ∙ span-any x (pairs_at v w) other
     where
-      other : (r : Record) → eq_z v r.p ≡ false → pairs v w r ≡ false
+      other : (r : Record) → eq_z v r.p ≡ false → pairs_at v w r ≡ false
       other r e = ap (λ (b : Bool). (eqb r.code 4 && b) && eq_z w r.q) e ∙ ap (λ (b : Bool). b && eq_z w r.q) (and-false (eqb r.code 4))
-
-      its : (r : Record) → eq_z v r.p ≡ true → pairs v w r ≡ pairs_with w r
-      its r e = ap (λ (b : Bool). (eqb r.code 4 && b) && eq_z w r.q) e ∙ ap (λ (b : Bool). b && eq_z w r.q) (and-true (eqb r.code 4))
 
   abbrev is_it : Record → Bool
   is_it r = eq_z v r.p

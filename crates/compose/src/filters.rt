@@ -1,21 +1,21 @@
 // The lists of the fields, laid into the lent scratch: each domain, narrowed in place.
-ghost use Rattle.std.specs.Prelude.{◌≡◌, true, suc, ◌/◌, ◌≤◌, ◌<◌, pos, length, get_or, take, replicate};
+ghost use Rattle.std.specs.Prelude.{◌≡◌, Bool, ℤ, true, ◌≤◌, pos, length, take, replicate};
 ghost use mathlib.Core.List.{foldl, map};
 ghost use Rattle.lists.specs.Integers.{elem_z};
-ghost use Rattle.lists.specs.Lists.{any, concat_map, filter, or_else, sum_n, over};
+ghost use Rattle.lists.specs.Lists.{concat_map, filter, sum_n, over};
 ghost use Rattle.spec.specs.Code.{as_record, InScale, ps_of};
 ghost use Rattle.spec.specs.Domain.{domain};
-ghost use Rattle.spec.specs.Kind.{kind_of};
 ghost use Rattle.spec.specs.Record.{constraint_of, field_by, field_of, records_of};
-ghost use Rattle.registry.specs.Code.{group_in, HeadIn, mask_in, passes, test_in};
-ghost use Rattle.registry.specs.Index.{Indexed};
+ghost use Rattle.registry.specs.Code.{group_in, HeadIn};
 ghost use Rattle.compose.specs.Maps.{allowed, narrow_by};
-ghost use Rattle.compose.specs.Code.{constraints_in, fields_in, FieldIn, FieldsIn, HeadsIn, is_ascending, kept_by, list_places, lists_by, narrows_kind, packed_lists};
+ghost use Rattle.compose.specs.Code.{Answers, constraints_in, fields_in, FieldIn, FieldsIn, HeadsIn, is_ascending, list_places, lists_by, packed_lists};
 
 use crate::finding::{is_ascending, next_item};
+use crate::members::{INDEXED, ROOM, indexed};
 use registry::check::meets;
-use registry::sorting::{finds_p, index_run};
-use spec::domains::{domain_len, domain_value, part};
+use registry::sorting::IndexedRun;
+use spec::domains::{domain_len, domain_value, has_p, part};
+use spec::kinds::Kind;
 use spec::numbers::{Index, Value};
 use spec::records::{Record, record_at};
 
@@ -23,11 +23,7 @@ use spec::records::{Record, record_at};
 pub fn clear(list: &mut [i64])
     ensures { list.new ≡ replicate (length list.old) (pos 0) }
 {
-    let mut i = 0;
-    while i < list.len() {
-        list[i] = 0;
-        i += 1;
-    }
+    list.fill(0);
 }
 
 // Lays the domain of field h, whose values are the records given.
@@ -35,184 +31,87 @@ pub(crate) fn lay_domain(h: Record, values: &[u8], list: &mut [i64])
     requires { InScale h.p h.q h.r × (length list.old ≡ length (domain (field_by h.b (as_record h) (records_of values.now)))) }
     ensures { list.new ≡ domain (field_by h.b (as_record h) (records_of values.now)) }
 {
-    let mut i = 0;
-    while i < list.len() {
-        let v = domain_value(h, values, Index(i));
-        let x = v.0;
-        list[i] = x;
-        i += 1;
+    for i in 0..list.len() {
+        list[i] = domain_value(h, values, Index(i)).0;
     }
 }
 
-// Moves the values that meet the test of a head's code, p and q to the front; how many they are.
-fn compact(list: &mut [i64], code: u8, p: i64, q: i64, run: &[u8]) -> usize
-    requires { mask_in (kind_of code) p ≡ true }
-    ensures count { result ≡ length (filter (passes (test_in (kind_of code) p q (records_of run.now))) list.old) }
-    ensures left { list.new ≡ over (filter (passes (test_in (kind_of code) p q (records_of run.now))) list.old) list.old }
+// Moves the values that pass the test to the front; how many they are.
+fn compact<F: Fn(Value) -> bool>(list: &mut [i64], passes: F) -> usize
+    requires { F.IsAlwaysCallable passes }
+    ensures count { (p : ℤ → Bool) → Answers (F.post passes) p → result ≡ length (filter p list.old) }
+    ensures left { (p : ℤ → Bool) → Answers (F.post passes) p → list.new ≡ over (filter p list.old) list.old }
 {
-    let mut w = 0;
-    let mut i = 0;
-    while i < list.len() {
+    let mut kept = 0;
+    for i in 0..list.len() {
         let x = list[i];
-        if meets(code, p, q, run, Value(x)) {
-            list[w] = x;
-            w += 1;
+        if passes(Value(x)) {
+            list[kept] = x;
+            kept += 1;
         }
-        i += 1;
-    }
-    w
-}
-
-// The same of head h. For a range, a oneof and a bitmask the compiler makes loops of their own, which do not ask for the kind again.
-fn compact_met(list: &mut [i64], h: Record, run: &[u8]) -> usize
-    requires { mask_in (kind_of h.code) h.p ≡ true }
-    ensures count { result ≡ length (filter (passes (test_in (kind_of h.code) h.p h.q (records_of run.now))) list.old) }
-    ensures left { list.new ≡ over (filter (passes (test_in (kind_of h.code) h.p h.q (records_of run.now))) list.old) list.old }
-{
-    let code = h.code;
-    if code == 10 {
-        return compact(list, 10, h.p, h.q, run);
-    }
-    if code == 18 {
-        return compact(list, 18, h.p, h.q, run);
-    }
-    if code == 21 {
-        return compact(list, 21, h.p, h.q, run);
-    }
-    compact(list, code, h.p, h.q, run)
-}
-
-// Keeps the values that meet the test, or all where none does; how many are kept.
-fn narrow(list: &mut [i64], h: Record, run: &[u8]) -> usize
-    requires { mask_in (kind_of h.code) h.p ≡ true }
-    ensures count { result ≡ length (kept_by (test_in (kind_of h.code) h.p h.q (records_of run.now)) list.old) }
-    ensures left { list.new ≡ over (kept_by (test_in (kind_of h.code) h.p h.q (records_of run.now)) list.old) list.old }
-{
-    let met = compact_met(list, h, run);
-    if met == 0 {
-        return list.len();
-    }
-    met
-}
-
-// Moves the values that are among the items to the front, by the index of the items; how many they are.
-fn compact_found(list: &mut [i64], run: &[u8], places: &[usize]) -> usize
-    requires { Indexed run.now places.now }
-    ensures count { result ≡ length (filter (λ v. elem_z v (ps_of (records_of run.now))) list.old) }
-    ensures left { list.new ≡ over (filter (λ v. elem_z v (ps_of (records_of run.now))) list.old) list.old }
-{
-    let mut w = 0;
-    let mut i = 0;
-    while i < list.len() {
-        let x = list[i];
-        if finds_p(run, places, Value(x)) {
-            list[w] = x;
-            w += 1;
-        }
-        i += 1;
-    }
-    w
-}
-
-// The same of a list that ascends, item by item.
-fn compact_ascending(list: &mut [i64], run: &[u8], places: &[usize]) -> usize
-    requires { (is_ascending list.old ≡ true) × Indexed run.now places.now }
-    ensures count { result ≡ length (filter (λ v. elem_z v (ps_of (records_of run.now))) list.old) }
-    ensures left { list.new ≡ over (filter (λ v. elem_z v (ps_of (records_of run.now))) list.old) list.old }
-{
-    let n = list.len();
-    let first = next_item(&list[..], run, places);
-    let mut w = 0;
-    let mut i = first.0;
-    while i < n {
-        let x = list[i];
-        list[w] = x;
-        w += 1;
-        let from = i + 1;
-        let next = next_item(&list[from..], run, places);
-        i = from + next.0;
-    }
-    w
-}
-
-// The same of any list.
-fn compact_items(list: &mut [i64], run: &[u8], places: &[usize]) -> usize
-    requires { Indexed run.now places.now }
-    ensures count { result ≡ length (filter (λ v. elem_z v (ps_of (records_of run.now))) list.old) }
-    ensures left { list.new ≡ over (filter (λ v. elem_z v (ps_of (records_of run.now))) list.old) list.old }
-{
-    if is_ascending(&list[..]) {
-        return compact_ascending(list, run, places);
-    }
-    compact_found(list, run, places)
-}
-
-// Keeps the values that are among the items of a oneof, or all where none is; the items are indexed first.
-fn narrow_listed(list: &mut [i64], h: Record, run: &[u8]) -> usize
-    requires { (h.code ≡ 18) × (length run.now / 32 ≤ 2048) }
-    ensures count { result ≡ length (kept_by (test_in (kind_of h.code) h.p h.q (records_of run.now)) list.old) }
-    ensures left { list.new ≡ over (kept_by (test_in (kind_of h.code) h.p h.q (records_of run.now)) list.old) list.old }
-{
-    let n = run.len() / 32;
-    let mut places = [0usize; 2048];
-    let mut spare = [0usize; 2048];
-    index_run(run, &mut places[..n], &mut spare[..n]);
-    let kept = compact_items(list, run, &places[..n]);
-    if kept == 0 {
-        return list.len();
     }
     kept
 }
 
-// A oneof whose items are worth an index: there are many of them and many values, or very many values in order. The index has room for 2048.
-fn is_long_oneof(code: u8, items: usize, list: &[i64]) -> bool
-    ensures { result ≡ true → (code ≡ 18) × (items ≤ 2048) }
+// Moves the values of a list that ascends that are among the items to the front, item by item; how many they are.
+fn compact_ascending(list: &mut [i64], items: IndexedRun) -> usize
+    requires { is_ascending list.old ≡ true }
+    ensures count { result ≡ length (filter (λ v. elem_z v (ps_of (records_of items.entry.run.now))) list.old) }
+    ensures left { list.new ≡ over (filter (λ v. elem_z v (ps_of (records_of items.entry.run.now))) list.old) list.old }
 {
-    if (code != 18) | (2048 < items) {
-        return false;
+    let mut kept = 0;
+    let mut i = next_item(&list[..], items).0;
+    while i < list.len() {
+        list[kept] = list[i];
+        kept += 1;
+        let from = i + 1;
+        i = from + next_item(&list[from..], items).0;
     }
-    if (32 < items) & (64 < list.len()) {
-        return true;
-    }
-    if list.len() <= 512 {
-        return false;
-    }
-    is_ascending(list)
+    kept
 }
 
-// The kinds that narrow a list: range, oneof, bitmask.
-fn is_filter(code: u8) -> bool
-    ensures { result ≡ narrows_kind (kind_of code) }
+// The items are worth an index: there are many of them and many values, or very many values in order.
+fn is_worth_index(items: usize, list: &[i64]) -> bool
+    ensures { result ≡ true → items ≤ 2048 }
 {
-    match code {
-        0..=9 => false,
-        10 => true,
-        11..=17 => false,
-        18 => true,
-        19..=20 => false,
-        21 => true,
-        22..=255 => false,
-    }
+    items <= INDEXED
+        && ((32 < items) & (64 < list.len()) || 512 < list.len() && is_ascending(list))
 }
 
-// Narrows the list of field f by the constraint at record head; how many values are kept.
+// Moves the values that are among the items to the front; how many they are.
+fn compact_items(list: &mut [i64], run: &[u8]) -> usize
+    ensures count { result ≡ length (filter (λ v. elem_z v (ps_of (records_of run.now))) list.old) }
+    ensures left { list.new ≡ over (filter (λ v. elem_z v (ps_of (records_of run.now))) list.old) list.old }
+{
+    if !is_worth_index(run.len() / 32, &list[..]) {
+        return compact(list, |v| has_p(run, v));
+    }
+    let mut room = [0usize; ROOM];
+    let items = indexed(run, &mut room);
+    if is_ascending(&list[..]) {
+        return compact_ascending(list, items);
+    }
+    compact(list, |v| items.finds_p(v))
+}
+
+// Narrows the list of field f by the constraint at record head: keeps the values that meet it, or all where none does; how many are kept.
 fn narrow_by(file: &[u8], head: usize, end: usize, f: usize, list: &mut [i64]) -> usize
     requires { HeadIn file.now head end 32 }
     ensures count { result ≡ length (foldl (narrow_by f) list.old (constraint_of (group_in file.now head end))) }
     ensures left { list.new ≡ over (foldl (narrow_by f) list.old (constraint_of (group_in file.now head end))) list.old }
 {
     let h = record_at(file, head);
-    if !is_filter(h.code) {
-        return list.len();
-    }
     if h.a != f {
         return list.len();
     }
     let run = part(file, head + 1, end);
-    if is_long_oneof(h.code, run.len() / 32, &list[..]) {
-        return narrow_listed(list, h, run);
-    }
-    narrow(list, h, run)
+    let met = match h.kind {
+        Kind::Range => compact(list, |v| meets(Kind::Range, h.p, h.q, run, v)),
+        Kind::Oneof => compact_items(list, run),
+        Kind::Bitmask => compact(list, |v| meets(Kind::Bitmask, h.p, h.q, run, v)),
+        _ => return list.len(),
+    };
+    if met == 0 { list.len() } else { met }
 }
 
 // Narrows it by each constraint, in file order.
@@ -222,10 +121,8 @@ fn narrow_all(file: &[u8], heads: &[usize], f: usize, list: &mut [i64]) -> usize
     ensures front { take result list.new ≡ foldl (narrow_by f) list.old (constraints_in file.now heads.now) }
 {
     let mut len = list.len();
-    let mut k = 1;
-    while k < heads.len() {
+    for k in 1..heads.len() {
         len = narrow_by(file, heads[k - 1], heads[k], f, &mut list[..len]);
-        k += 1;
     }
     len
 }
@@ -263,8 +160,7 @@ pub(crate) fn lay_lists(
     ensures lists { lists.new ≡ list_places (map length (lists_by (constraints_in file.now constraints.now) (fields_in file.now fields.now))) }
 {
     let mut at = 0;
-    let mut k = 1;
-    while k < fields.len() {
+    for k in 1..fields.len() {
         let len = lay_list(
             file,
             fields[k - 1],
@@ -276,7 +172,6 @@ pub(crate) fn lay_lists(
         lists[k - 1] = at;
         lists[31 + k] = len;
         at += len;
-        k += 1;
     }
     clear(&mut scratch[at..]);
 }

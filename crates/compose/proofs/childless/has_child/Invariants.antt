@@ -1,13 +1,8 @@
--- `compose::childless::has_child` meets its contract. The invariant: some child value is in the list exactly where one of the records from i on gives it.
-use mathlib.Core.Path.{◌≡◌}
-use Prim.Native.Nat.{◌-◌, ◌≤◌}
-use lib.ListN.{drop}
-use Rattle.spec.specs.Record.{records_of}
-use Rattle.compose.proofs.Tabled.{child_among}
+-- `compose::childless::has_child` meets its contract. The invariant: no child value at a place before k is in the list.
+use Rattle.std.proofs.Common.{◌≡◌, false, map}
+use Rattle.lists.specs.Lists.{any}
+use Rattle.compose.specs.Code.{between, pairs_at}
 use Rattle.compose.proofs.childless.has_child.Given as goal
 
-abbrev pub invariant-loop-i : goal.invariant-loop-i
-invariant-loop-i l = (l.i ≤ l.n) × (child_among l.v.0 l.list (drop l.i (records_of l.run)) ≡ child_among l.v.0 l.list (records_of l.run))
-
-abbrev pub decreases-loop-i : goal.decreases-loop-i
-decreases-loop-i l = l.n - l.i
+abbrev pub invariant-loop-k : goal.invariant-loop-k
+invariant-loop-k g l = any (λ w. any (pairs_at l.v.0 w) (map (g.M.Members.member l.members) (between l.initial.k l.k))) l.children.list ≡ false

@@ -1,78 +1,33 @@
--- `compose::filters::compact` meets its contract. The invariant: those of the first i values that meet the test stand in front.
-use mathlib.Core.Path.{◌∙◌, ◌≡◌, sym}
-use native.Mathlib.Omega.{arith}
-use borrow.Author.Rules.{sfits_of}
-use lib.IntN.{pos}
-use lib.ListN.{get_or}
-use mir.Syntax.{w64}
-use mir.Val.{of_z, to_z}
+-- `compose::filters::compact` meets its contract.
+use Rattle.std.proofs.Common.{◌∙◌, ◌≡◌, ap, sym, rules, arith, ℤ, Bool, pos, get_or, length, w64, to_z, of_z}
 use mir.ValLaws.{to_z-of_z}
-use Rattle.spec.proofs.Multiples.{held}
-use Rattle.compose.proofs.Narrowing.{moved_count, moved_end, moved_kept, moved_none, moved_past, moved_read, test_with}
-use Rattle.compose.proofs.filters.compact.Goals.{After-meets, After-x-1, else-meets, then-meets}
+use Rattle.compose.proofs.Narrowing.{moved_count, moved_end, moved_kept, moved_none, moved_past, moved_read}
+use Rattle.compose.proofs.filters.compact.Goals.{then-passes, else-passes}
 use Rattle.compose.proofs.filters.compact.Goals as goal
 
 pub loop-i-init : goal.loop-i-init
-loop-i-init c = moved_none (test_with c.args.code (held c.args.p) (held c.args.q) c.args.run.now) c.args.list.now
-
-pub meets-requires : goal.meets-requires
-meets-requires c = rw (to_z-of_z w64 c.args.p c.ranges.p) c.requires
-
--- the value read, and its test
-value : (c : After-x-1) → to_z w64 (of_z w64 (get_or c.loop-i.list c.loop-i.i (pos 0))) ≡ get_or c.args.list.now c.loop-i.i (pos 0)
-value c =
-    let l = c.loop-i in
-    to_z-of_z w64 _ (sfits_of c.x-1.given) ∙ moved_read (test_with c.args.code (held c.args.p) (held c.args.q) c.args.run.now) c.args.list.now l.list l.w l.i l.invariant
-
-test : (c : After-meets) → test_with c.args.code (held c.args.p) (held c.args.q) c.args.run.now (get_or c.args.list.now c.loop-i.i (pos 0)) ≡ c.meets.result
-test c = sym (rw (value (record { before = c.before.before; type_inv = record { run = c.shared_slice_known-1.given } })) at c.meets.ensures)
-
-pub offset_bounds-list-w : goal.offset_bounds-list-w
-offset_bounds-list-w c =
-    let m = c.loop-i.invariant in
-    let b = m.behind in
-    let e = m.long in
-    omega arith
-
-pub bounds-list-w : goal.bounds-list-w
-bounds-list-w c =
-    let m = c.loop-i.invariant in
-    let b = m.behind in
-    let e = m.long in
-    omega arith
-
-pub overflow_add-w : goal.overflow_add-w
-overflow_add-w c =
-    let m = c.loop-i.invariant in
-    let b = m.behind in
-    let e = m.long in
-    omega arith
-
-pub overflow_add-i : goal.overflow_add-i
-overflow_add-i c = let e = c.loop-i.invariant.long in omega arith
-
-pub loop-i-smaller : goal.loop-i-smaller
-loop-i-smaller c = let e = c.loop-i.invariant.long in omega arith
+loop-i-init g c = (omega arith, λ p a. moved_none p c.args.list.now)
 
 pub loop-i-preserved : goal.loop-i-preserved
-loop-i-preserved c =
+loop-i-preserved g c =
     let l = c.loop-i in
-    let p = test_with c.args.code (held c.args.p) (held c.args.q) c.args.run.now in
-    let e = l.invariant.long in
-    elim c.if-meets.branch [
-      | then-meets u ↦ rw (u.list-is, u.w-is, value (goal.at.loop-i-preserved c).After-x-1) (moved_kept p c.args.list.now l.list l.w l.i l.invariant (omega arith) (test (goal.at.loop-i-preserved c).After-meets ∙ u.if-meets.true))
-      | else-meets u ↦ rw (u.list-is, u.w-is) (moved_past p c.args.list.now l.list l.w l.i l.invariant (omega arith) (test (goal.at.loop-i-preserved c).After-meets ∙ u.if-meets.false))
-    ]
-
-pub shape_of-list : goal.shape_of-list
-shape_of-list c = c.loop-i.invariant.long
+    let list = c.args.list.now in (
+      elim c.if-passes.branch [ then-passes u ↦ omega arith | else-passes u ↦ omega arith ],
+      λ p a.
+          let m = l.invariant.1 p a in
+          let x : to_z w64 (of_z w64 (get_or l.list l.i (pos 0))) ≡ get_or list l.i (pos 0) = to_z-of_z w64 (get_or l.list l.i (pos 0)) (search rules) ∙ moved_read p list l.list l.kept l.i m in
+          let t : c.passes.result ≡ p (get_or list l.i (pos 0)) = a _ _ (search rules) c.passes.ensures ∙ ap p x in
+          elim c.if-passes.branch [
+            | then-passes u ↦ rw (u.list-is, u.kept-is, x) (moved_kept p list l.list l.kept l.i m c.loop-i-test.true (sym t ∙ u.if-passes.true))
+            | else-passes u ↦ rw (u.list-is, u.kept-is) (moved_past p list l.list l.kept l.i m c.loop-i-test.true (sym t ∙ u.if-passes.false))
+          ],
+    )
 
 pub returns : goal.returns
-returns c =
+returns g c =
     let l = c.loop-i in
-    let p = test_with c.args.code (held c.args.p) (held c.args.q) c.args.run.now in
-    let e = l.invariant.long in
+    let list = c.args.list.now in
     record {
-      count = rw (sym (to_z-of_z w64 c.args.p c.ranges.p), sym (to_z-of_z w64 c.args.q c.ranges.q)) (moved_count p c.args.list.now l.list l.w l.i l.invariant (omega arith));
-      left = rw (sym (to_z-of_z w64 c.args.p c.ranges.p), sym (to_z-of_z w64 c.args.q c.ranges.q)) (moved_end p c.args.list.now l.list l.w l.i l.invariant (omega arith));
+      count = λ p a. moved_count p list l.list l.kept l.i (l.invariant.1 p a) (omega arith);
+      left = λ p a. moved_end p list l.list l.kept l.i (l.invariant.1 p a) (omega arith);
     }

@@ -1,0 +1,31 @@
+-- `compose::values::Values::has` meets its contract.
+use Rattle.std.proofs.Common.{◌∙◌, ◌≡◌, ◌<◌, ◌≤◌, refl, sym, arith, rules, nat_eq, false, get_or, length, pos, ℤ, w64, of_z}
+use Rattle.lists.specs.Integers.{elem_z, eq_z}
+use Rattle.compose.proofs.Ascending.{elem-by, elem-none}
+use Rattle.compose.proofs.Slotting.{free_none, only_is, only_none}
+use Rattle.compose.proofs.values.Values.has.Goals as goal
+
+pub returns-then-k-self : goal.returns-then-k-self
+returns-then-k-self c =
+    let list = c.args.self.list.now in
+    let k = c.reach-k.result.0 in
+    let same : nat_eq (of_z w64 (get_or list k (pos 0))) (of_z w64 c.args.w.0) ≡ eq_z (get_or list k (pos 0)) c.args.w.0 = search rules in
+    same ∙ elem-by list c.args.w.0 k c.reach-k.ensures (c.args.self.helps.0 c.in-Order.is) c.if-k-self.true
+
+pub returns-else-k-self : goal.returns-else-k-self
+returns-else-k-self c =
+    let e = elem-none c.args.self.list.now c.args.w.0 c.reach-k.result.0 c.reach-k.ensures (omega arith) in search (rules, e)
+
+pub returns-in-Free : goal.returns-in-Free
+returns-in-Free c = sym (free_none c.in-Slots.slots.now c.args.self.list.now (c.args.self.helps.1 c.in-Slots.slots c.in-Slots.is) c.args.w.0 c.in-Free.ensures.number)
+
+pub returns-then-i-self : goal.returns-then-i-self
+returns-then-i-self c =
+    let list = c.args.self.list.now in
+    let i = c.in-Only.i in
+    let same : nat_eq (of_z w64 (get_or list i (pos 0))) (of_z w64 c.args.w.0) ≡ eq_z (get_or list i (pos 0)) c.args.w.0 = search rules in
+    same ∙ only_is c.in-Slots.slots.now list (c.args.self.helps.1 c.in-Slots.slots c.in-Slots.is) c.args.w.0 i c.in-Only.ensures.number (λ e. let f = c.in-Only.ensures.full e in cc) c.if-i-self.true
+
+pub returns-else-i-self : goal.returns-else-i-self
+returns-else-i-self c =
+    let e : elem_z c.args.w.0 c.args.self.list.now ≡ false = only_none c.in-Slots.slots.now c.args.self.list.now (c.args.self.helps.1 c.in-Slots.slots c.in-Slots.is) c.args.w.0 c.in-Only.i c.in-Only.ensures.number (λ e. let f = c.in-Only.ensures.full e in cc) (λ h. absurd (omega arith)) in search (rules, e)

@@ -1,0 +1,190 @@
+// The members of a kept map, read through or by their index: for a parent value the child values that are paired with it.
+ghost use Rattle.std.specs.Prelude.{◌≡◌, ◌+◌, ◌-◌, ◌/◌, ◌≤◌, ◌<◌, ℕ, ℤ, true, false, ◌&&◌, ◌||◌, leb, ltb, map, get_or, length, List, MatchOption};
+ghost use Rattle.lists.specs.Integers.{eq_z};
+ghost use Rattle.lists.specs.Lists.{any};
+ghost use Rattle.spec.specs.Record.{entry_of, Record, record_at, records_of};
+ghost use Rattle.spec.specs.Spec.{Entry};
+ghost use Rattle.registry.specs.Check.{is_key, is_pair};
+ghost use Rattle.registry.specs.Index.{Bracket, placed, Spans};
+ghost use Rattle.compose.specs.Code.{between, pairs_at};
+
+use registry::check::has_pair;
+use registry::sorting::{IndexedRun, index_run};
+use spec::domains::has_p;
+use spec::kinds::Kind;
+use spec::numbers::Value;
+use spec::records::{kind_at, p_at, q_at};
+
+// Numbers of places: from low to before high.
+#[derive(Clone, Copy)]
+pub(crate) struct Span {
+    pub low: usize,
+    pub high: usize,
+}
+
+pub(crate) trait Members: Copy {
+    ghost entries: { Self → List Entry };
+
+    // How many places there are, and the record at each.
+    ghost many: { Self → ℕ };
+
+    ghost member: { Self → ℕ → Record };
+
+    // Where the pairs of parent value v stand, if it is a key.
+    fn places_of(self, v: Value) -> Option<Span>
+        ensures { MatchOption result (any (is_key v.0) (entries self) ≡ false) (λ s. (any (is_key v.0) (entries self) ≡ true) × (s.low ≤ s.high) × (s.high ≤ many self) × ((w : ℤ) → any (is_pair v.0 w) (entries self) ≡ any (pairs_at v.0 w) (map (member self) (between s.low s.high)))) };
+
+    // The child value at place k, if a pair with v stands there.
+    fn child_at(self, k: usize, v: Value) -> Option<Value>
+        requires { k < many self }
+        ensures { MatchOption result ((w : ℤ) → pairs_at v.0 w (member self k) ≡ false) (λ q. (w : ℤ) → pairs_at v.0 w (member self k) ≡ eq_z w q.0) };
+}
+
+// The child value of record i, if it is a pair with v.
+fn child_of(run: &[u8], i: usize, v: Value) -> Option<Value>
+    requires { i < length run.now / 32 }
+    ensures { MatchOption result ((w : ℤ) → pairs_at v.0 w (record_at run.now i) ≡ false) (λ q. (w : ℤ) → pairs_at v.0 w (record_at run.now i) ≡ eq_z w q.0) }
+{
+    if p_at(run, i) == v.0 && kind_at(run, i) == Kind::Pair {
+        Some(Value(q_at(run, i)))
+    } else {
+        None
+    }
+}
+
+// Members that are read through.
+#[derive(Clone, Copy)]
+pub(crate) struct Run<'a>(pub &'a [u8]);
+
+impl<'a> Members for Run<'a> {
+    ghost entries = { λ m. map entry_of (records_of m.0.now) };
+
+    ghost many = { λ m. length m.0.now / 32 };
+
+    ghost member = { λ m. record_at m.0.now };
+
+    fn places_of(self, v: Value) -> Option<Span> {
+        if has_p(self.0, v) {
+            Some(Span {
+                low: 0,
+                high: self.0.len() / 32,
+            })
+        } else {
+            None
+        }
+    }
+
+    fn child_at(self, k: usize, v: Value) -> Option<Value> {
+        child_of(self.0, k, v)
+    }
+}
+
+impl<'a> Members for IndexedRun<'a> {
+    ghost entries = { λ m. map entry_of (records_of m.run.now) };
+
+    ghost many = { λ m. length m.places.now };
+
+    ghost member = { λ m. placed m.run.now m.places.now };
+
+    fn places_of(self, v: Value) -> Option<Span> {
+        let span = span_of(self, v);
+        if span.low < span.high {
+            Some(span)
+        } else {
+            None
+        }
+    }
+
+    fn child_at(self, k: usize, v: Value) -> Option<Value> {
+        child_of(self.run, self.places[k], v)
+    }
+}
+
+// The places of the records whose p is v.
+pub(crate) fn span_of(members: IndexedRun, v: Value) -> Span
+    ensures { Spans members.entry.run.now members.entry.places.now v.0 result.low result.high }
+{
+    let low = members.lower(v, Value(i64::MIN));
+    let high = match v.0.checked_add(1) {
+        Some(next) => members.lower(Value(next), Value(i64::MIN)),
+        None => members.places.len(),
+    };
+    Span { low, high }
+}
+
+// v and w are a pair; place k is the first that is not below them.
+pub(crate) fn is_pair_at(members: IndexedRun, k: usize, v: Value, w: Value) -> bool
+    requires { Bracket members.run.now members.places.now v.0 w.0 k k }
+    ensures { result ≡ any (is_pair v.0 w.0) (map entry_of (records_of members.entry.run.now)) }
+{
+    if members.places.len() <= k {
+        return false;
+    }
+    let r = members.places[k];
+    if p_at(members.run, r) != v.0 || q_at(members.run, r) != w.0 {
+        return false;
+    }
+    // A key without a child has 0 there.
+    kind_at(members.run, r) == Kind::Pair || has_pair(members.run, v, w)
+}
+
+// The key at place k, unless it is that of the place before it.
+pub(crate) fn new_key(members: IndexedRun, k: usize) -> Option<Value>
+    requires { k < length members.places.now }
+    ensures { MatchOption result ((0 < k) × ((placed members.entry.run.now members.entry.places.now (k - 1)).p ≡ (placed members.entry.run.now members.entry.places.now k).p)) (λ v. v.0 ≡ (placed members.entry.run.now members.entry.places.now k).p) }
+{
+    let p = p_at(members.run, members.places[k]);
+    if 0 < k && p_at(members.run, members.places[k - 1]) == p {
+        return None;
+    }
+    Some(Value(p))
+}
+
+// How many keys the members have.
+pub(crate) fn keys_in(members: IndexedRun) -> usize {
+    let mut count = 0;
+    for k in 0..members.places.len() {
+        if new_key(members, k).is_some() {
+            count += 1;
+        }
+    }
+    count
+}
+
+// So many members an index is laid for.
+pub(crate) const INDEXED: usize = 2048;
+
+// Room for such an index, and as much to spare.
+pub(crate) const ROOM: usize = 4096;
+
+// The members with their index, which is laid into the room.
+pub(crate) fn indexed<'a>(run: &'a [u8], room: &'a mut [usize; ROOM]) -> IndexedRun<'a>
+    requires { length run.now / 32 ≤ 2048 }
+    ensures { result.run.now ≡ run.now }
+{
+    let n = run.len() / 32;
+    let (places, spare) = room.split_at_mut(n);
+    index_run(run, places, &mut spare[..n]);
+    IndexedRun { run, places }
+}
+
+// So many members are worth an index, where so many values are looked for among them.
+pub(crate) fn is_worth(members: usize, values: usize) -> bool
+    ensures { result ≡ true → members ≤ 2048 }
+{
+    (members <= INDEXED) & (32 < values) & ((16 < members) | (512 < values))
+}
+
+// So many members are worth slots of a list of so many values, among which they are looked for.
+pub(crate) fn is_worth_slots(members: usize, values: usize) -> bool
+    ensures { result ≡ (ltb 16 members && ltb 32 values) }
+{
+    (16 < members) & (32 < values)
+}
+
+// Going by the keys is quicker: they are no more than the values of the parent's list, and found in it by halving or few.
+pub(crate) fn goes_by_keys(parents: usize, rises: bool, keys: usize) -> bool
+    ensures { result ≡ (leb keys parents && (rises || leb keys 24)) }
+{
+    (keys <= parents) & (rises | (keys <= 24))
+}

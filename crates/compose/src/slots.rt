@@ -1,0 +1,63 @@
+// Slots of a list: a number for each remainder of a division, which says where the values with that remainder stand.
+ghost use Rattle.std.specs.Prelude.{◌≡◌, ◌<◌, replicate};
+ghost use Rattle.compose.specs.Code.{remainder_of, slot_after, slot_in, Slotted, slot_number};
+ghost use Rattle.compose.specs.declared.slots.Slot.TheVariants.{Several};
+
+use spec::numbers::Value;
+
+// A prime, so that the multiples of one number have all remainders.
+pub(crate) const REMAINDERS: usize = 16381;
+
+// Stands in the slot of several values, or of one too far behind for a number.
+const FULL: u16 = 65535;
+
+// Where the values with a remainder stand in the list.
+#[derive(Clone, Copy)]
+pub(crate) enum Slot {
+    Free,
+    Only(usize),
+    Several,
+}
+
+fn remainder_of(w: Value) -> usize
+    ensures { (result ≡ remainder_of w.0) × (result < 16381) }
+{
+    w.0.unsigned_abs() as usize % REMAINDERS
+}
+
+// The number in a slot after a value with its remainder, that at i.
+fn after_value(slot: u16, i: usize) -> u16
+    ensures { result ≡ slot_after slot i }
+{
+    if (slot == 0) & (i < 65534) {
+        (i + 1) as u16
+    } else {
+        FULL
+    }
+}
+
+// Whatever the values are, afterwards the slot of each says where it stands.
+pub(crate) fn lay_slots(list: &[i64], slots: &mut [u16; REMAINDERS])
+    requires { slots.old ≡ replicate 16381 0 }
+    ensures { Slotted slots.new list.now }
+{
+    for (i, v) in list.iter().enumerate() {
+        let k = remainder_of(Value(*v));
+        slots[k] = after_value(slots[k], i);
+    }
+}
+
+// What the slot of a value's remainder says.
+pub(crate) fn slot_of(slots: &[u16; REMAINDERS], w: Value) -> Slot
+    ensures number { slot_number result ≡ slot_in slots.now w.0 }
+    ensures full { slot_in slots.now w.0 ≡ 65535 → result ≡ Several }
+{
+    let next = usize::from(slots[remainder_of(w)]);
+    if next == 0 {
+        return Slot::Free;
+    }
+    if next == usize::from(FULL) {
+        return Slot::Several;
+    }
+    Slot::Only(next - 1)
+}
