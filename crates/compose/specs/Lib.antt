@@ -3,3 +3,4 @@ pub mod Tuples
 pub mod Force
 pub mod Walk
 pub mod Code
+pub mod Plans
