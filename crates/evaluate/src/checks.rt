@@ -8,7 +8,7 @@ ghost use Rattle.evaluate.specs.Verdict.{field_checks, if_passed};
 ghost use Rattle.evaluate.specs.Code.{allowed_at, behind, ChecksIn, first_chosen, from_one, holds_at};
 
 use registry::check::check;
-use registry::project::{Projection, project};
+use registry::project::project;
 use spec::domains::{allows_value, part};
 use spec::numbers::Value;
 use spec::records::record_at;
@@ -85,12 +85,12 @@ pub fn failing_field(file: &[u8], fields: &[usize], raw: &[i64], row: &[i64]) ->
 }
 
 // The projection of a row that passed.
-pub fn projection(file: &[u8], projector: usize, row: &[i64], place: usize) -> Projection
+pub fn projection(file: &[u8], projector: usize, row: &[i64], place: usize) -> Option<i64>
     requires { RowIn row.now × ProjectorIn file.now projector (length row.now) }
     ensures { as_projection result ≡ if_passed place (project_of (group_in file.now projector (length file.now / 32)) row.now) }
 {
     if place == 0 {
         return project(file, projector, row);
     }
-    Projection::Nothing
+    None
 }
