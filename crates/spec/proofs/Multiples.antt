@@ -220,22 +220,3 @@ step_is (pos zero) bits o n (inr w) = absurd (w.0 refl)
 step_is (pos (suc k)) bits o n (inl w) = absurd (let e = w.0 in omega arith)
 step_is (pos (suc k)) bits o n (inr w) = record { is = w.1; positive = omega arith; small = yes_le (suc k) (2 ^ 56) o }
 step_is (negsuc k) bits o n w = absurd (true≢false n)
-
--- ---- the length of a domain, by the field's form
-module _ (h : Record) (values : ℕ) where
-  -- How many multiples of the field's step there are in p..q.
-  abbrev pub length_in : ℤ → ℤ → ℕ
-  length_in p q = how_many (step_of (nat_abs h.r)) (first_multiple (step_of (nat_abs h.r)) p) q
-
-  pub length_listed : (form : ℕ) → 2 ≤ form → length_by form h values ≡ values
-  length_listed zero l = absurd (omega arith)
-  length_listed (suc zero) l = absurd (omega arith)
-  length_listed (suc (suc k)) l = refl
-
-  pub length_ranged : (form : ℕ) → form ≡ 1 → length_by form h values ≡ length_in h.p h.q
-  length_ranged form e = rw e
-
-  pub length_free : (form : ℕ) → form < 2 → ¬ (form ≡ 1) → length_by form h values ≡ length_in (pos 0) (pos 255)
-  length_free zero l n = refl
-  length_free (suc zero) l n = absurd (n refl)
-  length_free (suc (suc k)) l n = absurd (omega arith)

@@ -5,6 +5,7 @@ use mathlib.Core.Path.{◌∙◌, ◌≡◌, ap, refl, sym}
 use Prim.Native.Nat.{◌*◌, ◌+◌, ◌/◌, ◌<◌, ◌^◌, ◌≤◌, suc, zero, ℕ}
 use native.Mathlib.Nat.{le-div_iff_mul-le, mul_comm, mul-zero, suc-mul}
 use native.Mathlib.Omega.{arith}
+use lib.Dec.{eqb}
 use lib.IntN.{+ℤ_assoc, +ℤ_idr, ◌*ℤ◌, ◌+ℤ◌, ◌-ℤ◌, nat_abs, negsuc, pos, pos-*ℤ-pos, pos-+ℤ-pos, ℤ}
 use lib.ListN.{get_or, length}
 use lib.Signed.{le_z, mag}
@@ -13,7 +14,7 @@ use mir.Val.{SFits, to_z}
 use mir.ValLaws.{to_z-of_z, to_z_pos}
 use borrow.Author.Rules.{sfits_of}
 use Rattle.lists.proofs.Signed.{apart_bound}
-use Rattle.spec.specs.Code.{InRise, IsRise, ps_of}
+use Rattle.spec.specs.Code.{InRise, IsRise, high_of, low_of, ps_of}
 use Rattle.spec.specs.Domain.{domain, first_multiple, how_many, multiples, progression, step_of}
 use Rattle.spec.specs.Record.{Record, field_by, record_at, records_of}
 use Rattle.spec.specs.Refusal.{on_scale}
@@ -108,13 +109,19 @@ module _ (h : Record) (ms : List Record) where
   domain_listed (suc zero) l = absurd (omega arith)
   domain_listed (suc (suc k)) l = refl
 
-  pub domain_ranged : (form : ℕ) → form ≡ 1 → domain (field_by form h ms) ≡ multiples (step_of (nat_abs h.r)) h.p h.q
-  domain_ranged form e = ap (λ (k : ℕ). domain (field_by k h ms)) e
+  -- The multiples in the range that the form says.
+  pub domain_rise : (form : ℕ) → form < 2 → domain (field_by form h ms) ≡ multiples (step_of (nat_abs h.r)) (low_of form h.p) (high_of form h.q)
+  domain_rise zero l = refl
+  domain_rise (suc zero) l = refl
+  domain_rise (suc (suc k)) l = absurd (omega arith)
 
-  pub domain_free : (form : ℕ) → form < 2 → ¬ (form ≡ 1) → domain (field_by form h ms) ≡ multiples (step_of (nat_abs h.r)) (pos 0) (pos 255)
-  domain_free zero l n = refl
-  domain_free (suc zero) l n = absurd (n refl)
-  domain_free (suc (suc k)) l n = absurd (omega arith)
+-- That range is on the scale where p and q are.
+pub range_in : (form : ℕ) (p q : ℤ) → on_scale p ≡ true → on_scale q ≡ true → (on_scale (low_of form p) ≡ true) × (on_scale (high_of form q) ≡ true)
+range_in form p q p_in q_in = go (eqb form 1)
+  where
+    go : (b : Bool) → (on_scale (cond b p (pos 0)) ≡ true) × (on_scale (cond b q (pos 255)) ≡ true)
+    go true = (p_in, q_in)
+    go false = (refl, refl)
 
 -- The value at a place of a list of values.
 pub p_place : (bytes : List ℕ) (i : ℕ) → i < length bytes / 32 → get_or (ps_of (records_of bytes)) i (pos 0) ≡ (record_at bytes i).p
