@@ -1,5 +1,5 @@
 -- Words below 2^63, and the turns of the loop that adds up the digits.
-use mathlib.Core.Bool.{Bool, cond, false, false≢true, not, true, true≢false}
+use mathlib.Core.Bool.{Bool, cond, false, true, true≢false}
 use mathlib.Core.List.{List, [], ◌∷◌, map}
 use mathlib.Core.Option.{Option, none, some}
 use mathlib.Core.Path.{◌∙◌, ◌≡◌, ap, refl, subst, sym}
@@ -7,10 +7,12 @@ use Prim.Native.Nat.{◌%◌, ◌*◌, ◌+◌, ◌-◌, ◌/◌, ◌<◌, ◌^�
 use native.Mathlib.Numerals.{add-one}
 use native.Mathlib.Omega.{arith}
 use lib.Dec.{T, ltb}
+use Rattle.std.specs.Prelude.{Some, None}
 use lib.IntN.{nat_abs, negsuc, pos, ℤ}
 use lib.ListN.{drop, drop_of_length-le, length}
 use lib.Signed.{le_z, lt_z, non_neg}
 use Rattle.lists.proofs.All.{All, All_at}
+use Rattle.lists.proofs.Range.{in_range}
 use Rattle.lists.proofs.Tests.{ltb_no, ltb_yes, no_ge, yes_le, yes_lt}
 use Rattle.spec.specs.Record.{Record, axis_of, offset_by, record_at, records_of}
 use Rattle.spec.specs.Spec.{Axis, AxisSpec}
@@ -26,26 +28,35 @@ word_yes n h = ap (λ (b : Bool). word_by b n) (sym (ltb_yes n (2 ^ 63) h))
 pub word_no : (n : ℕ) → 2 ^ 63 ≤ n → word_by false n ≡ word_of n
 word_no n h = ap (λ (b : Bool). word_by b n) (sym (ltb_no n (2 ^ 63) h))
 
-pub fits_yes : (n : ℕ) → not (word_of n).fits ≡ false → (n < 2 ^ 63) × ((word_of n).word ≡ n)
-fits_yes n = go (ltb n (2 ^ 63)) refl
+pub fits_yes : (n m : ℕ) → word_of n ≡ Some m → (n < 2 ^ 63) × (m ≡ n)
+fits_yes n m = go (ltb n (2 ^ 63)) refl
   where
-    go : (b : Bool) → ltb n (2 ^ 63) ≡ b → not (word_by b n).fits ≡ false → (n < 2 ^ 63) × ((word_by b n).word ≡ n)
-    go true t e = (yes_lt n (2 ^ 63) t, refl)
-    go false t e = absurd (true≢false e)
+    go : (b : Bool) → ltb n (2 ^ 63) ≡ b → word_by b n ≡ Some m → (n < 2 ^ 63) × (m ≡ n)
+    go true t e = (yes_lt n (2 ^ 63) t, cc)
+    go false t e = absurd (cc)
 
-pub fits_no : (n : ℕ) → not (word_of n).fits ≡ true → 2 ^ 63 ≤ n
+pub fits_no : (n : ℕ) → word_of n ≡ None → 2 ^ 63 ≤ n
 fits_no n = go (ltb n (2 ^ 63)) refl
   where
-    go : (b : Bool) → ltb n (2 ^ 63) ≡ b → not (word_by b n).fits ≡ true → 2 ^ 63 ≤ n
-    go true t e = absurd (false≢true e)
+    go : (b : Bool) → ltb n (2 ^ 63) ≡ b → word_by b n ≡ None → 2 ^ 63 ≤ n
+    go true t e = absurd (cc)
     go false t e = no_ge n (2 ^ 63) t
 
 -- ---- v × 2^k
-pub raised_below : (v k : ℕ) → k < 64 → v < 2 ^ (63 - k) → v * 2 ^ k < 2 ^ 63
-raised_below v k h l = yes_lt (v * 2 ^ k) (2 ^ 63) (shift_fits v k (omega arith) ∙ ltb_yes v (2 ^ (63 - k)) l)
+halved : (k : ℕ) → k < 64 → 2 ^ 63 / 2 ^ k ≡ 2 ^ (63 - k)
+halved k h = in_range (λ k. 2 ^ 63 / 2 ^ k) (λ k. 2 ^ (63 - k)) 0 64 refl k (omega arith) h
 
-pub raised_over : (v k : ℕ) → k < 64 → 2 ^ (63 - k) ≤ v → 2 ^ 63 ≤ v * 2 ^ k
-raised_over v k h l = no_ge (v * 2 ^ k) (2 ^ 63) (shift_fits v k (omega arith) ∙ ltb_no v (2 ^ (63 - k)) l)
+pub raised_below : (v k : ℕ) → k < 64 → v < 2 ^ 63 / 2 ^ k → v * 2 ^ k < 2 ^ 63
+raised_below v k h l = yes_lt (v * 2 ^ k) (2 ^ 63) (shift_fits v k (omega arith) ∙ ltb_yes v (2 ^ (63 - k)) (subst (λ n. v < n) (halved k h) l))
+
+pub raised_over : (v k : ℕ) → k < 64 → 2 ^ 63 / 2 ^ k ≤ v → 2 ^ 63 ≤ v * 2 ^ k
+raised_over v k h l = no_ge (v * 2 ^ k) (2 ^ 63) (shift_fits v k (omega arith) ∙ ltb_no v (2 ^ (63 - k)) (subst (λ n. n ≤ v) (halved k h) l))
+
+pub held_raised : (n : ℕ) → n < 2 ^ 63 → n % 18446744073709551616 ≡ n
+held_raised n h = omega arith
+
+pub power_held : (k : ℕ) → k < 64 → 1 * 2 ^ k % 18446744073709551616 ≡ 2 ^ k
+power_held k h = in_range (λ k. 1 * 2 ^ k % 18446744073709551616) (λ k. 2 ^ k) 0 64 refl k (omega arith) h
 
 pub offset_absent : (v : ℕ) (offset : ℤ) → lt_z offset (pos 0) ≡ true → word_by true 0 ≡ word_of (at_offset (offset_by offset) v)
 offset_absent v (pos k) e = absurd (let h = yes_lt k 0 e in omega arith)

@@ -11,3 +11,4 @@ pub mod Looked
 pub mod Halves
 pub mod Alike
 pub mod Tried
+pub mod Permuted

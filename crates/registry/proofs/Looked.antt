@@ -18,7 +18,7 @@ use Rattle.spec.specs.Code.{ps_of}
 use Rattle.spec.specs.Record.{Record, entry_of, record_at, record_of, records_of}
 use Rattle.registry.specs.Check.{cross_allows, is_pair}
 use Rattle.registry.specs.Index.{Bracket, Indexed, placed}
-use Rattle.registry.proofs.Cross.{any_key, any_pair, pairs}
+use Rattle.registry.proofs.Cross.{any_key, any_pair, pairs, pairs_entry}
 use Rattle.registry.proofs.Ordered.{lt_z_irrefl, under, under_antisym, under_asym, under_between, under_none}
 
 -- No 64-bit number is below the lowest.
@@ -195,8 +195,12 @@ module _ (run places : List ℕ) (x : Indexed run places) (v w : ℤ) (k : ℕ) 
     pair_same f false d = refl
     pair_same f true d = sym (any_pair v w (records_of run) ∙ seen (pairs v w) k l (and-join (and-join (sym d) (eq_z-sym v (at k).p ∙ e)) (eq_z-sym w (at k).q ∙ f)))
 
-    pub cross_same : eq_z (at k).q w ≡ true → (c : Bool) → c ≡ eqb (at k).code 4 → (c || any (is_pair v w) (map entry_of (records_of run))) ≡ cross_allows (map entry_of (records_of run)) v w
-    cross_same f c d = pair_same f c d ∙ sym (ap (λ (a : Bool). not a || any (is_pair v w) (map entry_of (records_of run))) (any_key v (records_of run) ∙ any-map (eq_z v) (λ (r : Record). r.p) (records_of run) ∙ key_at_lem))
+    -- A key is let through with those that it is paired with.
+    pub cross_key : any (is_pair v w) (map entry_of (records_of run)) ≡ cross_allows (map entry_of (records_of run)) v w
+    cross_key = sym (ap (λ (a : Bool). not a || any (is_pair v w) (map entry_of (records_of run))) (any_key v (records_of run) ∙ any-map (eq_z v) (λ (r : Record). r.p) (records_of run) ∙ key_at_lem))
+
+    pub cross_found : is_pair v w (entry_of (at k)) ≡ true → true ≡ cross_allows (map entry_of (records_of run)) v w
+    cross_found p = sym (any_pair v w (records_of run) ∙ seen (pairs v w) k l (pairs_entry v w (at k) ∙ p)) ∙ cross_key
 
   module _ (g : Past) where
     pub cross_first : k ≡ 0 → true ≡ cross_allows (map entry_of (records_of run)) v w

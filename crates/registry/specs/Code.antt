@@ -1,5 +1,7 @@
 -- What the code computes on the way, in terms of the definitions.
 use Rattle.std.specs.Prelude.{Bool, true, false, cond, List, map, ◌≡◌, ℕ, zero, suc, ◌-◌, ◌/◌, ◌%◌, ◌≤◌, ◌<◌, ◌^◌, ltb, ℤ, nat_abs, pos, drop, length, take}
+use Rattle.std.specs.Prelude as code
+use Rattle.std.specs.Prelude.{Some, None}
 use Rattle.std.proofs.Math.Option.{Option, none, some}
 use Rattle.std.specs.Int.Signed.{le_z}
 use Rattle.lists.proofs.All.{All}
@@ -9,9 +11,6 @@ use Rattle.spec.specs.Refusal.{negative, on_scale}
 use Rattle.spec.specs.Spec.{Bitmask, Even, Ge, Gt, Le, Lt, Oneof, Range, Test}
 use Rattle.registry.specs.Check.{meets}
 use Rattle.registry.specs.Project.{project}
-use Rattle.registry.specs.declared.project.Projection.{Projection}
-use Rattle.registry.specs.declared.project.Projection.TheVariants.{Nothing, Number}
-use Rattle.registry.specs.declared.project.Word as code
 
 -- ---- checks
 -- The test of one value that a constraint is; none for eq, neq, cross and the enable records.
@@ -77,16 +76,16 @@ pub record HeadIn (file : List ℕ) (head end n : ℕ) : Type 0 where
   pub mask : mask_in (record_at file head).kind (record_at file head).p ≡ true
 
 -- ---- projections
-abbrev pub as_projection : Projection → Option ℤ
-as_projection Nothing = none
-as_projection (Number v) = some v
+abbrev pub as_projection : code.Option ℤ → Option ℤ
+as_projection None = none
+as_projection (Some v) = some v
 
 -- A number below 2^63, or none.
-abbrev pub word_by : Bool → ℕ → code.Word
-word_by true n = record { fits = true; word = n }
-word_by false n = record { fits = false; word = 0 }
+abbrev pub word_by : Bool → ℕ → code.Option ℕ
+word_by true n = Some n
+word_by false n = None
 
-abbrev pub word_of : ℕ → code.Word
+abbrev pub word_of : ℕ → code.Option ℕ
 word_of n = word_by (ltb n (2 ^ 63)) n
 
 -- The digit that an axis takes, and what it leaves to the next; radix 0 is absent.

@@ -1,40 +1,49 @@
 // The check of a constraint on a row of values: one decision over all kinds.
-ghost use Rattle.std.specs.Prelude.{◌≡◌, true, map, suc, ◌+◌, ◌-◌, ◌/◌, ◌≤◌, ◌<◌, eqb, drop, get_or, length, take};
+ghost use Rattle.std.specs.Prelude.{◌≡◌, ◌≢◌, true, map, suc, ◌+◌, ◌-◌, ◌/◌, ◌≤◌, ◌<◌, drop, eqb, get_or, length, take, MatchOption};
 ghost use Rattle.lists.specs.Integers.{elem_z};
 ghost use Rattle.lists.specs.Lists.{all, any};
-ghost use Rattle.spec.specs.Code.{ps_of};
-ghost use Rattle.spec.specs.Kind.{kind_of};
-ghost use Rattle.spec.specs.Record.{records_of, entry_of, constraint_of};
+ghost use Rattle.spec.specs.Code.{as_kind, ps_of};
+ghost use Rattle.spec.specs.Record.{records_of, record_at, entry_of, constraint_of};
 ghost use Rattle.registry.specs.Check.{is_pair, cross_allows, holds};
 ghost use Rattle.registry.specs.Index.{IndexIn};
 ghost use Rattle.registry.specs.Code.{test_in, passes, mask_in, group_in, HeadIn};
 
-use crate::sorting::{finds_cross, finds_p};
-use crate::tests::{
-    has_bits, in_range, is_above, is_at_least, is_at_most, is_below, is_even, same,
-};
+use crate::sorting::IndexedRun;
 use spec::domains::{has_p, part};
+use spec::kinds::Kind;
 use spec::numbers::Value;
-use spec::records::{a_at, b_at, code_at, p_at, q_at};
+use spec::records::{a_at, b_at, kind_at, p_at, q_at};
+
+// The mark of a head whose members are indexed is this and the number of the record that they end before. No place reaches it.
+const MARK: usize = 4096;
 
 // The test of one value that a constraint is, with its members; records that are no such test pass every value.
-pub fn meets(code: u8, p: i64, q: i64, run: &[u8], v: Value) -> bool
-    requires { mask_in (kind_of code) p ≡ true }
-    ensures { result ≡ passes (test_in (kind_of code) p q (records_of run.now)) v.0 }
+pub fn meets(kind: Kind, p: i64, q: i64, run: &[u8], v: Value) -> bool
+    requires { mask_in (as_kind kind) p ≡ true }
+    ensures { result ≡ passes (test_in (as_kind kind) p q (records_of run.now)) v.0 }
 {
-    match code {
-        0..=9 => true,
-        10 => in_range(v, p, q),
-        11 => is_even(v),
-        12..=13 => true,
-        14 => is_below(v, p),
-        15 => is_above(v, p),
-        16 => is_at_most(v, p),
-        17 => is_at_least(v, p),
-        18 => has_p(run, v),
-        19..=20 => true,
-        21 => has_bits(v, p, q),
-        22..=255 => true,
+    let x = v.0;
+    match kind {
+        Kind::Range => (p <= x) & (x <= q),
+        Kind::Even => x % 2 == 0,
+        Kind::Lt => x < p,
+        Kind::Gt => p < x,
+        Kind::Le => x <= p,
+        Kind::Ge => p <= x,
+        Kind::Oneof => has_p(run, v),
+        Kind::Bitmask => (x & p) == q,
+        _ => true,
+    }
+}
+
+// Record i is the pair of v and w.
+pub(crate) fn is_pair_at(run: &[u8], i: usize, v: Value, w: Value) -> bool
+    requires { i < length run.now / 32 }
+    ensures { result ≡ is_pair v.0 w.0 (entry_of (record_at run.now i)) }
+{
+    match kind_at(run, i) {
+        Kind::Pair => (p_at(run, i) == v.0) & (q_at(run, i) == w.0),
+        _ => false,
     }
 }
 
@@ -42,41 +51,48 @@ pub fn meets(code: u8, p: i64, q: i64, run: &[u8], v: Value) -> bool
 pub fn has_pair(run: &[u8], v: Value, w: Value) -> bool
     ensures { result ≡ any (is_pair v.0 w.0) (map entry_of (records_of run.now)) }
 {
-    let n = run.len() / 32;
-    let mut i = 0;
-    while i < n {
-        let x = p_at(run, i);
-        let y = q_at(run, i);
-        if (code_at(run, i) == 4) & same(v, Value(x)) & same(w, Value(y)) {
+    for i in 0..run.len() / 32 {
+        if is_pair_at(run, i, v, w) {
             return true;
         }
-        i += 1;
     }
     false
 }
 
 // The parent's value is no key, or the child's is paired with it.
-pub(crate) fn crosses(run: &[u8], v: Value, w: Value) -> bool
+fn crosses(run: &[u8], v: Value, w: Value) -> bool
     ensures { result ≡ cross_allows (map entry_of (records_of run.now)) v.0 w.0 }
 {
-    if !has_p(run, v) {
-        return true;
-    }
-    has_pair(run, v, w)
+    !has_p(run, v) || has_pair(run, v, w)
 }
 
 // The members of the head at a record are indexed.
 pub fn is_indexed(index: &[usize], head: usize, end: usize) -> bool
     ensures { result ≡ eqb (get_or index.now head 0) (4096 + end) }
 {
-    if index.len() <= head {
-        return false;
+    match index.get(head) {
+        Some(mark) => mark.checked_sub(MARK) == Some(end),
+        None => false,
     }
-    let mark = index[head];
-    if mark < 4096 {
-        return false;
+}
+
+// The members of the head at a record, with their index if they have one.
+pub fn indexed_at<'a>(
+    file: &'a [u8],
+    head: usize,
+    end: usize,
+    index: &'a [usize],
+) -> Option<IndexedRun<'a>>
+    requires { (head < end) × (end ≤ length file.now / 32) × (end ≤ 65536) × IndexIn file.now index.now }
+    ensures { MatchOption result (get_or index.now head 0 ≢ 4096 + end) (λ r. (get_or index.now head 0 ≡ 4096 + end) × (records_of r.run.now ≡ take (end - suc head) (drop (suc head) (records_of file.now))) × (r.places.now ≡ take (end - suc head) (drop (suc head) index.now))) }
+{
+    if !is_indexed(index, head, end) {
+        return None;
     }
-    mark - 4096 == end
+    Some(IndexedRun {
+        run: part(file, head + 1, end),
+        places: &index[head + 1..end],
+    })
 }
 
 // The value is one of the items of the oneof at record head.
@@ -84,11 +100,10 @@ fn has_item(file: &[u8], head: usize, end: usize, index: &[usize], v: Value) -> 
     requires { (head < end) × (end ≤ length file.now / 32) × (end ≤ 65536) × IndexIn file.now index.now }
     ensures { result ≡ elem_z v.0 (ps_of (take (end - suc head) (drop (suc head) (records_of file.now)))) }
 {
-    let run = part(file, head + 1, end);
-    if is_indexed(index, head, end) {
-        return finds_p(run, &index[head + 1..end], v);
+    match indexed_at(file, head, end, index) {
+        Some(items) => items.finds_p(v),
+        None => has_p(part(file, head + 1, end), v),
     }
-    has_p(run, v)
 }
 
 // The cross at record head lets parent value v have child value w.
@@ -96,11 +111,10 @@ fn crosses_at(file: &[u8], head: usize, end: usize, index: &[usize], v: Value, w
     requires { (head < end) × (end ≤ length file.now / 32) × (end ≤ 65536) × IndexIn file.now index.now }
     ensures { result ≡ cross_allows (map entry_of (take (end - suc head) (drop (suc head) (records_of file.now)))) v.0 w.0 }
 {
-    let run = part(file, head + 1, end);
-    if is_indexed(index, head, end) {
-        return finds_cross(run, &index[head + 1..end], v, w);
+    match indexed_at(file, head, end, index) {
+        Some(entries) => entries.finds_cross(v, w),
+        None => crosses(part(file, head + 1, end), v, w),
     }
-    crosses(run, v, w)
 }
 
 // The constraint at record head, whose members end before record end.
@@ -108,36 +122,16 @@ pub fn check(file: &[u8], head: usize, end: usize, index: &[usize], row: &[i64])
     requires { HeadIn file.now head end (length row.now) × (end ≤ 65536) × IndexIn file.now index.now }
     ensures { result ≡ all (holds row.now) (constraint_of (group_in file.now head end)) }
 {
-    let code = code_at(file, head);
-    let a = a_at(file, head);
-    let b = b_at(file, head);
-    let v = Value(row[a]);
-    let w = Value(row[b]);
-    match code {
-        0..=11 => meets(
-            code,
-            p_at(file, head),
-            q_at(file, head),
-            part(file, head + 1, end),
-            v,
-        ),
-        12 => same(v, w),
-        13 => !same(v, w),
-        14..=17 => meets(
-            code,
-            p_at(file, head),
-            q_at(file, head),
-            part(file, head + 1, end),
-            v,
-        ),
-        18 => has_item(file, head, end, index, v),
-        19 => crosses_at(file, head, end, index, v, w),
-        20..=255 => meets(
-            code,
-            p_at(file, head),
-            q_at(file, head),
-            part(file, head + 1, end),
-            v,
-        ),
+    let v = row[a_at(file, head)];
+    let w = row[b_at(file, head)];
+    match kind_at(file, head) {
+        Kind::Eq => v == w,
+        Kind::Neq => v != w,
+        Kind::Oneof => has_item(file, head, end, index, Value(v)),
+        Kind::Cross => crosses_at(file, head, end, index, Value(v), Value(w)),
+        kind => {
+            let run = part(file, head + 1, end);
+            meets(kind, p_at(file, head), q_at(file, head), run, Value(v))
+        }
     }
 }

@@ -5,4 +5,3 @@ pub mod check;
 pub mod project;
 mod radix;
 pub mod sorting;
-mod tests;

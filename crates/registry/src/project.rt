@@ -1,6 +1,5 @@
 // The four projections of a row.
-ghost use Rattle.std.specs.Prelude.{◌≡◌, true, false, map, ◌+◌, ◌*◌, ◌/◌, ◌<◌, ◌^◌, pos, ◌-ℤ◌, length};
-ghost use Rattle.std.proofs.Math.Option.{some};
+ghost use Rattle.std.specs.Prelude.{◌≡◌, true, map, ◌+◌, ◌*◌, ◌/◌, ◌<◌, ◌^◌, pos, ◌-ℤ◌, length};
 ghost use Rattle.std.specs.Int.Signed.{le_z};
 ghost use Rattle.lists.specs.Integers.{sum_z, low_bit};
 ghost use Rattle.lists.proofs.All.{All};
@@ -9,35 +8,21 @@ ghost use Rattle.spec.specs.Refusal.{on_scale};
 ghost use Rattle.registry.specs.Project.{plus, digits, at_offset, fitting, packed};
 ghost use Rattle.registry.specs.Code.{as_projection, word_of, digit_of, rest_of, AxisIn, RowIn, ProjectorIn, group_in, project_of};
 
-use crate::tests::is_even;
 use spec::domains::part;
-use spec::numbers::{Value, power, powers};
-use spec::records::{a_at, b_at, code_at, p_at, q_at};
+use spec::kinds::Kind;
+use spec::numbers::Value;
+use spec::records::{a_at, b_at, kind_at, p_at, q_at};
 
-#[derive(Clone, Copy)]
-pub enum Projection {
-    Nothing,
-    Number(i64),
-}
-
-// A number below 2^63, where it fits.
-#[derive(Clone, Copy)]
-pub struct Word {
-    pub fits: bool,
-    pub word: u64,
-}
-
-const TOP: u64 = 0x8000_0000_0000_0000;
+// A projection is below this.
+const TOP: u64 = 1 << 63;
 
 fn sum(row: &[i64]) -> i64
     requires { RowIn row.now }
     ensures { result ≡ sum_z row.now }
 {
     let mut total = 0;
-    let mut f = 0;
-    while f < row.len() {
-        total += row[f];
-        f += 1;
+    for x in row {
+        total += *x;
     }
     total
 }
@@ -46,45 +31,27 @@ fn sum(row: &[i64]) -> i64
 fn parity(v: Value) -> i64
     ensures { result ≡ pos (low_bit v.0) }
 {
-    if is_even(v) { 0 } else { 1 }
+    v.0 & 1
 }
 
-// v × 2^k; the top is tested before shifting.
-fn raise(v: u64, k: usize) -> Word
+// v × 2^k, if that is below the top; tested before shifting.
+fn raise(v: u64, k: usize) -> Option<u64>
     requires { k < 64 }
     ensures { result ≡ word_of (v * 2 ^ k) }
 {
-    let p = powers(k);
-    if v < p.below {
-        return Word {
-            fits: true,
-            word: v * p.raised,
-        };
-    }
-    Word {
-        fits: false,
-        word: 0,
-    }
+    if v < TOP >> k { Some(v << k) } else { None }
 }
 
-// word + v × 2^k.
-fn add_raised(word: u64, v: u64, k: usize) -> Word
+// word + v × 2^k, if that is below the top.
+fn add_raised(word: u64, v: u64, k: usize) -> Option<u64>
     requires { (k < 64) × (word < 2 ^ 63) }
     ensures { result ≡ word_of (word + v * 2 ^ k) }
 {
-    let r = raise(v, k);
-    if !r.fits {
-        return r;
-    }
-    if TOP - word <= r.word {
-        return Word {
-            fits: false,
-            word: 0,
-        };
-    }
-    Word {
-        fits: true,
-        word: word + r.word,
+    let more = raise(v, k)?;
+    if more < TOP - word {
+        Some(word + more)
+    } else {
+        None
     }
 }
 
@@ -92,91 +59,71 @@ fn add_raised(word: u64, v: u64, k: usize) -> Word
 fn digit(radix: u64, rest: u64) -> u64
     ensures { result ≡ digit_of radix rest }
 {
-    if radix == 0 { rest } else { rest % radix }
+    rest.checked_rem(radix).unwrap_or(rest)
 }
 
 // What it leaves to the next; an axis without radix divides nothing off.
 fn quotient(radix: u64, rest: u64) -> u64
     ensures { result ≡ rest_of radix rest }
 {
-    if radix == 0 { rest } else { rest / radix }
+    rest.checked_div(radix).unwrap_or(rest)
 }
 
 // The digits of v by the axes, each times 2^shift, added to the word so far.
-fn spread(axes: &[u8], v: u64, start: u64) -> Projection
+fn spread(axes: &[u8], v: u64, start: u64) -> Option<i64>
     requires { (start < 2 ^ 63) × All AxisIn (records_of axes.now) }
     ensures { as_projection result ≡ fitting (plus start (digits (map axis_of (records_of axes.now)) v)) }
 {
-    let n = axes.len() / 32;
     let mut word = start;
     let mut rest = v;
-    let mut i = 0;
-    while i < n {
+    for i in 0..axes.len() / 32 {
         let radix = p_at(axes, i) as u64;
-        if radix == 0 {
-            if power(a_at(axes, i)) <= rest {
-                return Projection::Nothing;
-            }
+        if radix == 0 && 1 << a_at(axes, i) <= rest {
+            return None;
         }
-        let next = add_raised(word, digit(radix, rest), b_at(axes, i));
-        if !next.fits {
-            return Projection::Nothing;
-        }
-        word = next.word;
+        word = add_raised(word, digit(radix, rest), b_at(axes, i))?;
         rest = quotient(radix, rest);
-        i += 1;
     }
-    Projection::Number(word as i64)
+    Some(word as i64)
 }
 
 // v × 2^offset; a negative offset is absent.
-fn at_offset(v: u64, offset: i64) -> Word
+fn at_offset(v: u64, offset: i64) -> Option<u64>
     requires { le_z offset (pos 63) ≡ true }
     ensures { result ≡ word_of (at_offset (offset_by offset) v) }
 {
     if offset < 0 {
-        return Word {
-            fits: true,
-            word: 0,
-        };
+        return Some(0);
     }
     raise(v, offset as usize)
 }
 
-fn decompose(axes: &[u8], v: Value, base: i64, offset: i64) -> Projection
+fn decompose(axes: &[u8], v: Value, base: i64, offset: i64) -> Option<i64>
     requires { (on_scale v.0 ≡ true) × (on_scale base ≡ true) × (le_z offset (pos 63) ≡ true) × All AxisIn (records_of axes.now) }
     ensures { as_projection result ≡ packed (offset_by offset) (map axis_of (records_of axes.now)) (v.0 -ℤ base) }
 {
     let x = v.0;
     if x < base {
-        return Projection::Nothing;
+        return None;
     }
-    let u = (x - base) as u64;
-    let start = at_offset(u, offset);
-    if !start.fits {
-        return Projection::Nothing;
-    }
-    spread(axes, u, start.word)
+    let above = (x - base) as u64;
+    spread(axes, above, at_offset(above, offset)?)
 }
 
 // The projector at record head, on a row of values.
-pub fn project(file: &[u8], head: usize, row: &[i64]) -> Projection
+pub fn project(file: &[u8], head: usize, row: &[i64]) -> Option<i64>
     requires { RowIn row.now × ProjectorIn file.now head (length row.now) }
     ensures { as_projection result ≡ project_of (group_in file.now head (length file.now / 32)) row.now }
 {
-    let code = code_at(file, head);
-    let a = a_at(file, head);
-    let v = Value(row[a]);
-    match code {
-        0..=29 => Projection::Nothing,
-        30 => Projection::Number(sum(row)),
-        31 => Projection::Number(v.0),
-        32 => Projection::Number(parity(v)),
-        33 => {
-            let end = file.len() / 32;
-            let axes = part(file, head + 1, end);
+    let v = Value(row[a_at(file, head)]);
+    match kind_at(file, head) {
+        Kind::Sum => Some(sum(row)),
+        Kind::Identity => Some(v.0),
+        Kind::Parity => Some(parity(v)),
+        Kind::Decompose => {
+            let axes = part(file, head + 1, file.len() / 32);
             decompose(axes, v, p_at(file, head), q_at(file, head))
         }
-        34..=255 => Projection::Nothing,
+        _ => None,
     }
 }

@@ -1,12 +1,8 @@
 -- `registry::check::has_pair` meets its contract. The invariant: the run has the pair exactly where what is left of it has.
-use mathlib.Core.Path.{◌≡◌}
-use Prim.Native.Nat.{◌-◌, ◌≤◌}
+use Rattle.std.proofs.Common.{◌≡◌}
 use Rattle.spec.proofs.Axis.{any_from}
 use Rattle.registry.proofs.Cross.{pairs}
 use Rattle.registry.proofs.check.has_pair.Given as goal
 
 abbrev pub invariant-loop-i : goal.invariant-loop-i
-invariant-loop-i l = (l.i ≤ l.n) × (any_from (pairs l.v.0 l.w.0) l.run l.i ≡ any_from (pairs l.v.0 l.w.0) l.run 0)
-
-abbrev pub decreases-loop-i : goal.decreases-loop-i
-decreases-loop-i l = l.n - l.i
+invariant-loop-i l = any_from (pairs l.v.0 l.w.0) l.run l.i ≡ any_from (pairs l.v.0 l.w.0) l.run 0
