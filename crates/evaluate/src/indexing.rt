@@ -1,30 +1,41 @@
 // The index of a file's long lists of members, for the checks of rows.
 ghost use Rattle.std.specs.Prelude.{◌≡◌, ◌+◌, ◌-◌, ◌/◌, ◌≤◌, ◌<◌, ltb, length, replicate};
 ghost use Rattle.lists.specs.Lists.{any, upto};
+ghost use Rattle.spec.specs.Code.{as_kind};
 ghost use Rattle.registry.specs.Index.{IndexIn};
 ghost use Rattle.compose.specs.Code.{HeadsIn};
-ghost use Rattle.evaluate.specs.Code.{is_long_at, is_long_run, Unindexed};
+ghost use Rattle.evaluate.specs.Code.{is_listed, is_long_at, is_long_run, Unindexed};
 
 use registry::sorting::index_run;
 use spec::domains::part;
-use spec::records::code_at;
+use spec::kinds::Kind;
+use spec::records::kind_at;
 
 // Room for the index of every file.
 pub const RECORDS: usize = 2048;
 
-// The same behind the numbers of 32 fields.
-pub const WIDE: usize = 2080;
-
 // Members that are read through, where rows are asked about them.
 pub const LONG: usize = 16;
 
-// A oneof or a cross of more members than the number given.
+// Fewer rows than these do not pay for an index.
+const ROWS: usize = 20;
+
+// A kind whose members a value is looked for in.
+fn is_listed(kind: Kind) -> bool
+    ensures { result ≡ is_listed (as_kind kind) }
+{
+    match kind {
+        Kind::Oneof | Kind::Cross => true,
+        _ => false,
+    }
+}
+
+// Such a head of more members than the number given.
 fn is_long(file: &[u8], head: usize, end: usize, least: usize) -> bool
     requires { (head < end) × (end ≤ length file.now / 32) }
     ensures { result ≡ is_long_run least file.now head end }
 {
-    let code = code_at(file, head);
-    ((code == 18) | (code == 19)) & (least < end - head - 1)
+    is_listed(kind_at(file, head)) & (least < end - head - 1)
 }
 
 // One of the heads has more than 16; shorter ones are read through.
@@ -32,12 +43,10 @@ pub fn has_long(file: &[u8], heads: &[usize]) -> bool
     requires { HeadsIn file.now heads.now 32 }
     ensures { result ≡ any (is_long_at file.now heads.now) (upto (length heads.now - 1)) }
 {
-    let mut k = 1;
-    while k < heads.len() {
+    for k in 1..heads.len() {
         if is_long(file, heads[k - 1], heads[k], LONG) {
             return true;
         }
-        k += 1;
     }
     false
 }
@@ -46,7 +55,7 @@ pub fn has_long(file: &[u8], heads: &[usize]) -> bool
 pub fn index_pays(rows: usize) -> bool
     ensures { result ≡ ltb 20 rows }
 {
-    20 < rows
+    ROWS < rows
 }
 
 // Indexes the members of the head at a record.
@@ -75,13 +84,11 @@ pub fn index_heads(
     requires { HeadsIn file.now heads.now 32 × (length file.now / 32 ≤ length index.old) × (length index.old ≤ 2048) × (length spare.old ≡ length index.old) × (index.old ≡ replicate (length index.old) 0) }
     ensures { IndexIn file.now index.new }
 {
-    let mut k = 1;
-    while k < heads.len() {
+    for k in 1..heads.len() {
         let head = heads[k - 1];
         let end = heads[k];
         if is_long(file, head, end, least) {
             index_at(file, head, end, index, spare);
         }
-        k += 1;
     }
 }

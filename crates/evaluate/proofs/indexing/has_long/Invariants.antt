@@ -8,7 +8,4 @@ use Rattle.evaluate.specs.Code.{is_long_at}
 use Rattle.evaluate.proofs.indexing.has_long.Given as goal
 
 abbrev pub invariant-loop-k : goal.invariant-loop-k
-invariant-loop-k l = (1 ≤ l.k) × (l.k - 1 ≤ length l.heads - 1) × (any (is_long_at l.file l.heads) (upto (l.k - 1)) ≡ false)
-
-abbrev pub decreases-loop-k : goal.decreases-loop-k
-decreases-loop-k l = length l.heads - l.k
+invariant-loop-k l = any (is_long_at l.file l.heads) (upto (l.k - 1)) ≡ false

@@ -7,7 +7,4 @@ use Rattle.evaluate.specs.Code.{Unindexed}
 use Rattle.evaluate.proofs.indexing.index_heads.Given as goal
 
 abbrev pub invariant-loop-k : goal.invariant-loop-k
-invariant-loop-k l = (1 ≤ l.k) × (length l.index ≡ length l.initial.index) × (length l.spare ≡ length l.initial.spare) × IndexIn l.file l.index × Unindexed l.index (get_or l.heads (l.k - 1) 0)
-
-abbrev pub decreases-loop-k : goal.decreases-loop-k
-decreases-loop-k l = length l.heads - l.k
+invariant-loop-k l = IndexIn l.file l.index × Unindexed l.index (get_or l.heads (l.k - 1) 0)
