@@ -1,6 +1,6 @@
 // What a refused call answers.
 ghost use Rattle.std.specs.Prelude.{◌≡◌};
-ghost use Rattle.spec.specs.Code.{fault_number};
+ghost use Rattle.spec.specs.Code.{as_refused, fault_number};
 
 // Why a call is refused, in the order of the numbers that files, listings and other languages have for it.
 #[derive(Clone, Copy, PartialEq, Eq)]
@@ -64,9 +64,21 @@ impl From<Fault> for u8 {
     }
 }
 
-// The number, and the record from 1 on, or 0 for the whole; number 0 is no refusal.
-#[derive(Clone, Copy)]
+// The fault, and the record from 1 on, or 0 for the whole.
+#[derive(Clone, Copy, PartialEq, Eq)]
 pub struct Refusal {
-    pub number: u8,
+    pub fault: Fault,
     pub record: usize,
+}
+
+impl Fault {
+    // The refusal for this fault of a record, which is counted from 1; 0 for the whole.
+    pub fn at(self, number: usize) -> Refusal
+        ensures { as_refused result ≡ record { number = fault_number self; at = number } }
+    {
+        Refusal {
+            fault: self,
+            record: number,
+        }
+    }
 }
