@@ -11,7 +11,8 @@ use lib.ListN.{drop, get_or, length, length-append, length-drop, length-map, set
 use lib.Seq.{length-take-le, set-get_or}
 use Rattle.lists.proofs.Lists.{concat_map_append}
 use Rattle.lists.proofs.Tests.{eqb_no, eqb_yes, no_ge, or_split}
-use Rattle.spec.specs.Code.{as_answer, as_shape}
+use Rattle.spec.specs.Code.{as_answer, as_refused, as_shape}
+use Rattle.std.specs.Prelude.{Err, Ok, Result}
 use Rattle.spec.specs.Domain.{too_many, total}
 use Rattle.spec.specs.Kind.{kind_of, row_of}
 use Rattle.spec.specs.Record.{decoded, groups, parts_of, record_at, records_of, spec_of}
@@ -21,8 +22,6 @@ use Rattle.spec.specs.Shape.{shape_of}
 use Rattle.spec.specs.Spec.{FieldSpec, Spec}
 use Rattle.spec.specs.declared.refusal.Refusal as code'
 use Rattle.spec.specs.declared.validate.Shape as code
-use Rattle.spec.specs.declared.validate.Validation.{Validation}
-use Rattle.spec.specs.declared.validate.Validation.TheVariants as validation
 use Rattle.spec.proofs.Accepted.{count-fields, decoded-few, file_good}
 use Rattle.spec.proofs.Files.{laid, length_laid}
 use Rattle.spec.proofs.Sections.{field_heads}
@@ -34,28 +33,20 @@ use Rattle.join.proofs.Verdicts.{total-join}
 use Rattle.join.proofs.Written.{length_parts}
 
 -- ---- what validate told
-module _ (file : List ℕ) (v : Validation) (e : as_answer v ≡ answer (file_fault file) (shape_of file)) where
-  pub told_accepted : (s : code.Shape) → v ≡ validation.Accepted s → (file_fault file ≡ none) × (as_shape s ≡ shape_of file)
+module _ (file : List ℕ) (v : Result code.Shape code'.Refusal) (e : as_answer v ≡ answer (file_fault file) (shape_of file)) where
+  pub told_accepted : (s : code.Shape) → v ≡ Ok s → (file_fault file ≡ none) × (as_shape s ≡ shape_of file)
   told_accepted s q = go (file_fault file) (sym (ap as_answer q) ∙ e)
     where
-      shape_in : Answer Refused shapes.Shape → shapes.Shape
-      shape_in (accepted x) = x
-      shape_in (refused r) = as_shape s
-
       go : (o : Option Refused) → accepted (as_shape s) ≡ answer o (shape_of file) → (o ≡ none) × (as_shape s ≡ shape_of file)
-      go none e = (refl, ap shape_in e)
-      go (some r) e = let z : ◌≡◌ {A = ℕ} 0 1 = cc in absurd (omega arith)
+      go none e = (refl, cc)
+      go (some r) e = cc
 
-  pub told_refused : (r : code'.Refusal) → v ≡ validation.Refused r → file_fault file ≡ some (record { number = r.number; at = r.record })
+  pub told_refused : (r : code'.Refusal) → v ≡ Err r → file_fault file ≡ some (as_refused r)
   told_refused r q = go (file_fault file) (sym (ap as_answer q) ∙ e)
     where
-      why : Answer Refused shapes.Shape → Refused
-      why (accepted x) = record { number = r.number; at = r.record }
-      why (refused x) = x
-
-      go : (o : Option Refused) → refused (record { number = r.number; at = r.record }) ≡ answer o (shape_of file) → o ≡ some (record { number = r.number; at = r.record })
-      go none e = let z : ◌≡◌ {A = ℕ} 0 1 = cc in absurd (omega arith)
-      go (some x) e = ap some (sym (ap why e))
+      go : (o : Option Refused) → refused (as_refused r) ≡ answer o (shape_of file) → o ≡ some (as_refused r)
+      go none e = cc
+      go (some x) e = cc
 
 -- ---- the total of a joined file
 pub total_joined : (s t : Spec) → total (join_spec s t) ≡ total_by (length s.fields) (length t.fields) (total s) (total t)

@@ -45,6 +45,9 @@ abbrev pub joined_number : (fields constraints len total room : ℕ) → ℕ
 joined_number fields constraints len total room =
     cond (ltb 32 fields || ltb 256 constraints) 5 (cond (ltb 65536 len) 1 (cond (ltb 1000000000 total) 10 (cond (ltb room len) 14 0)))
 
+abbrev pub refusal_of : Which → ℕ → ℕ → JoinRefused
+refusal_of which number at = record { which = which; why = record { number = number; at = at } }
+
 abbrev pub as_which : code.Which → Which
 as_which whiches.First = first
 as_which whiches.Second = second

@@ -1,13 +1,14 @@
 // Text put into a lent buffer from `at` on. Each call gives the place after what it put there.
 ghost use Rattle.std.specs.Prelude.{◌≡◌, true, [], ◌∷◌, ◌+◌, ◌≤◌, pos, length, take};
 ghost use Rattle.std.proofs.lemmas.List.Edits.{sets};
-ghost use Rattle.spec.specs.Code.{as_answer};
+ghost use Rattle.spec.specs.Code.{as_answer, as_refused};
+ghost use Rattle.registry.specs.Code.{as_projection};
 ghost use Rattle.lists.specs.Lists.{concat_map};
 ghost use Rattle.lists.specs.Integers.{eq_z};
 ghost use Rattle.classifier.specs.Code.{as_counts};
 ghost use Rattle.listing.specs.Counts.{IsPrefixLen};
-ghost use Rattle.listing.specs.Text.{decimal, signed_decimal, spaced, refusal, refused_line, end_line, accepted_line, answer_line};
-ghost use Rattle.listing.specs.Words.{after_if, bytes_for, can_list, has_room, line_of, lines_of, projection_if, put_if};
+ghost use Rattle.listing.specs.Text.{decimal, signed_decimal, spaced, projection_text, refused_line, end_line, accepted_line, answer_line};
+ghost use Rattle.listing.specs.Words.{after_if, bytes_for, can_list, has_room, line_of, lines_of, put_if};
 
 use classifier::count::Counts;
 use itoa::Buffer;
