@@ -28,20 +28,6 @@ use Rattle.spec.specs.declared.refusal.Refusal as code⁵
 use Rattle.spec.specs.declared.scan.State as scan
 use Rattle.spec.specs.declared.validate.Shape as code''''
 
--- The record that the code's struct stands for.
-abbrev pub as_record : code'.Record → Record
-as_record h = record { code = kind_number h.kind; kind = as_kind h.kind; a = h.a; b = h.b; padding = h.padding; p = h.p; q = h.q; r = h.r }
-
--- The first eight bytes of a record, as one number.
-abbrev pub lead_of : Record → ℕ
-lead_of m = m.code + m.a * 0x100 + m.b * 0x1_0000 + m.padding * 0x100_0000
-
--- The kind's number, a and b are bytes.
-pub record InBytes (m : Record) : Type 0 where
-  pub code-low : m.code < 256
-  pub a-low : m.a < 256
-  pub b-low : m.b < 256
-
 -- The kind that the code's enum stands for, and its number.
 abbrev pub as_kind : kind.Kind → Kind
 as_kind kinds'.Field = field
@@ -98,6 +84,20 @@ kind_number kinds'.Identity = 31
 kind_number kinds'.Parity = 32
 kind_number kinds'.Decompose = 33
 kind_number (kinds'.Unknown n) = n
+
+-- The record that the code's struct stands for.
+abbrev pub as_record : code'.Record → Record
+as_record h = record { code = kind_number h.kind; kind = as_kind h.kind; a = h.a; b = h.b; padding = h.padding; p = h.p; q = h.q; r = h.r }
+
+-- The first eight bytes of a record, as one number.
+abbrev pub lead_of : Record → ℕ
+lead_of m = m.code + m.a * 0x100 + m.b * 0x1_0000 + m.padding * 0x100_0000
+
+-- The kind's number, a and b are bytes.
+pub record InBytes (m : Record) : Type 0 where
+  pub code-low : m.code < 256
+  pub a-low : m.a < 256
+  pub b-low : m.b < 256
 
 -- The part of a file by its number.
 abbrev pub section_number : Section → ℕ
@@ -218,7 +218,7 @@ as_fault (Err r) = some (as_refused r)
 
 -- A member with the first eight bytes given that has no fault; only pairs use q.
 abbrev pub is_plain : Bool → ℕ → Record → Bool
-is_plain pair lead m = eqb (lead_of m) lead && (pair || eq_z m.q (pos 0)) && eq_z m.r (pos 0) && on_scale m.p && on_scale m.q
+is_plain paired lead m = eqb (lead_of m) lead && (paired || eq_z m.q (pos 0)) && eq_z m.r (pos 0) && on_scale m.p && on_scale m.q
 
 -- What a turn leaves.
 abbrev pub after_turn : List ℕ → ℕ → Result scan.State code⁵.Refusal → Option Refused

@@ -1,6 +1,7 @@
 // What a refused call answers.
 ghost use Rattle.std.specs.Prelude.{◌≡◌};
-ghost use Rattle.spec.specs.Code.{as_refused, fault_number};
+ghost use Rattle.spec.specs.Refusal.{refuse};
+ghost use Rattle.spec.specs.Code.{as_fault, as_refused, fault_number, number_of};
 
 // Why a call is refused, in the order of the numbers that files, listings and other languages have for it.
 #[derive(Clone, Copy, PartialEq, Eq)]
@@ -81,4 +82,11 @@ impl Fault {
             record: number,
         }
     }
+}
+
+// A record that was judged is refused, if it has a fault.
+pub(crate) fn refuse_at(judged: Result<(), Fault>, number: usize) -> Result<(), Refusal>
+    ensures { as_fault result ≡ refuse (number_of judged) number }
+{
+    judged.map_err(|fault| fault.at(number))
 }

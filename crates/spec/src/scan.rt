@@ -11,7 +11,7 @@ use crate::faults::{belongs_to, judge_head, judge_list, judge_member, misfiled_f
 use crate::kinds::{List, Section, row_of};
 use crate::plain::plain_end;
 use crate::records::{Record, record_at};
-use crate::refusal::{Fault, Refusal};
+use crate::refusal::{Fault, Refusal, refuse_at};
 
 // The context after the last head, and that head's record, counted from 0.
 #[derive(Clone, Copy)]
@@ -26,7 +26,10 @@ fn close_list(file: &[u8], head: usize, end: usize) -> Result<(), Refusal>
     ensures { as_fault result ≡ refuse (list_fault (record_at file.now head).kind (record_at file.now head) (take (end - (head + 1)) (drop (head + 1) (records_of file.now)))) (head + 1) }
 {
     let number = head + 1;
-    judge_list(record_at(file, head), part(file, number, end)).map_err(|fault| fault.at(number))
+    refuse_at(
+        judge_list(record_at(file, head), part(file, number, end)),
+        number,
+    )
 }
 
 // Record i is a head: it closes the list before it, and opens its own.
@@ -34,9 +37,8 @@ fn take_head(file: &[u8], i: usize, state: State, m: Record) -> Result<State, Re
     requires { (state.head < i) × (i < length file.now / 32) × (as_record m ≡ record_at file.now i) × (is_member (as_kind m.kind) ≡ false) }
     ensures { (left_at file.now state i ≡ after_turn file.now i result) × turn_good i result }
 {
-    let number = i + 1;
     close_list(file, state.head, i)?;
-    judge_head(m, state.context).map_err(|fault| fault.at(number))?;
+    refuse_at(judge_head(m, state.context), i + 1)?;
     Ok(State {
         context: state.context.after(m.kind),
         head: i,
@@ -48,14 +50,13 @@ fn take_member(file: &[u8], i: usize, state: State, m: Record) -> Result<State, 
     requires { (state.head < i) × (i < length file.now / 32) × (as_record m ≡ record_at file.now i) × (is_member (as_kind m.kind) ≡ true) }
     ensures { (left_at file.now state i ≡ after_turn file.now i result) × turn_good i result }
 {
-    let number = i + 1;
     let head = record_at(file, state.head);
     if !belongs_to(head, m) {
         close_list(file, state.head, i)?;
-        return Err(misfiled_fault(m).at(number));
+        return Err(misfiled_fault(m).at(i + 1));
     }
     let before = part(file, state.head + 1, i);
-    judge_member(head, state.context.fields, before, m).map_err(|fault| fault.at(number))?;
+    refuse_at(judge_member(head, state.context.fields, before, m), i + 1)?;
     Ok(state)
 }
 
@@ -126,7 +127,7 @@ pub(crate) fn scan(file: &[u8]) -> Result<(), Refusal>
         return Err(misfiled_fault(m).at(1));
     }
     let context = Context::new();
-    judge_head(m, context).map_err(|fault| fault.at(1))?;
+    refuse_at(judge_head(m, context), 1)?;
     scan_from(
         file,
         State {
