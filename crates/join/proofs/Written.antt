@@ -52,18 +52,13 @@ unfolding sum_bytes
 sum_set = refl
 
 -- ---- one record
-module _ (file : List ℕ) (i : ℕ) where
-  module _ (row : code.Row) (e : as_row row ≡ row_of (kind_of (get_or (bytes_at file i) 0 0)) (get_or (bytes_at file i) 2 0)) where
-    pub a_moved : (n : ℕ) → add_use row.a n (get_or (bytes_at file i) 1 0) ≡ add_if (moves (row_of (kind_of (get_or (bytes_at file i) 0 0)) (get_or (bytes_at file i) 2 0)).a) n (get_or (bytes_at file i) 1 0)
-    a_moved n = ap (λ (w : kinds.Row). add_if (moves w.a) n (get_or (bytes_at file i) 1 0)) e
-
-    pub b_moved : (n : ℕ) → add_use row.b n (get_or (bytes_at file i) 2 0) ≡ add_if (moves (row_of (kind_of (get_or (bytes_at file i) 0 0)) (get_or (bytes_at file i) 2 0)).b) n (get_or (bytes_at file i) 2 0)
-    b_moved n = ap (λ (w : kinds.Row). add_if (moves w.b) n (get_or (bytes_at file i) 2 0)) e
-
-    -- The copied record with its two numbers moved.
-    pub record_moved : (n : ℕ) → set (set (bytes_at file i) 1 (add_use row.a n (get_or (bytes_at file i) 1 0))) 2 (add_use row.b n (get_or (bytes_at file i) 2 0)) ≡ move_bytes n (bytes_at file i)
-    unfolding move_bytes
-    record_moved n = ap₂ (λ (u v : ℕ). set (set (bytes_at file i) 1 u) 2 v) (a_moved n) (b_moved n)
+-- The bytes copied with their two numbers moved.
+pub record_moved : (bytes : List ℕ) (row : code.Row) (n x y : ℕ) (out : List ℕ) → as_row row ≡ row_of (kind_of (get_or bytes 0 0)) (get_or bytes 2 0)
+    → out ≡ bytes → x ≡ add_use row.a n (get_or bytes 1 0) → y ≡ add_use row.b n (get_or bytes 2 0) → set (set out 1 x) 2 y ≡ move_bytes n bytes
+unfolding move_bytes
+record_moved bytes row n x y out e o a b =
+    ap (λ (l : List ℕ). set (set l 1 x) 2 y) o
+    ∙ ap₂ (λ (u v : ℕ). set (set bytes 1 u) 2 v) (a ∙ ap (λ (w : kinds.Row). add_if (moves w.a) n (get_or bytes 1 0)) e) (b ∙ ap (λ (w : kinds.Row). add_if (moves w.b) n (get_or bytes 2 0)) e)
 
 -- ---- a range of records
 -- Part i of a file is the bytes of record i.

@@ -1,5 +1,6 @@
 -- What the code computes on the way, in terms of the definitions.
 use Rattle.std.specs.Prelude.{◌||◌, cond, List, map, ℕ, zero, suc, ◌*◌, ◌-◌, ◌/◌, ◌≤◌, ◌<◌, ltb, drop, get_or, length, take, Result, Ok, Err}
+use Rattle.std.proofs.Math.Option.{Option, none, some}
 use Rattle.lists.specs.Lists.{concat_map}
 use Rattle.spec.specs.Code.{as_refused, as_use}
 use Rattle.spec.specs.Kind.{kind_of, row_of}
@@ -55,6 +56,10 @@ as_which whiches.Both = joined
 
 abbrev pub as_join_refused : JoinRefusal → JoinRefused
 as_join_refused r = record { which = as_which r.which; why = as_refused r.why }
+
+abbrev pub as_join_fault : Result (Unit {0}) JoinRefusal → Option JoinRefused
+as_join_fault (Ok x) = none
+as_join_fault (Err r) = some (as_join_refused r)
 
 abbrev pub as_joined : Result ℕ JoinRefusal → Answer JoinRefused ℕ
 as_joined (Ok n) = accepted n

@@ -1,11 +1,11 @@
 // Two files as one: first's fields, second's renumbered, constraints likewise, one sum.
 ghost use Rattle.std.specs.Prelude.{◌≡◌, ◌+◌, ◌-◌, ◌*◌, ◌/◌, ◌≤◌, ◌<◌, length};
 ghost use Rattle.std.proofs.Math.Option.{none};
-ghost use Rattle.spec.specs.Code.{as_refused, as_shape, number_of};
-ghost use Rattle.spec.specs.Refusal.{file_fault};
+ghost use Rattle.spec.specs.Code.{as_refused, as_shape};
+ghost use Rattle.spec.specs.Refusal.{file_fault, refuse};
 ghost use Rattle.spec.specs.Shape.{shape_of};
-ghost use Rattle.join.specs.Join.{join_answer, join_bytes, join_output, move_bytes, sum_bytes};
-ghost use Rattle.join.specs.Code.{add_use, as_joined, as_join_refused, as_which, bytes_at, joined_number, moved_range, MovesIn, RangeIn, total_by};
+ghost use Rattle.join.specs.Join.{join_answer, join_bytes, join_output, joined, move_bytes, of, sum_bytes};
+ghost use Rattle.join.specs.Code.{add_use, as_joined, as_join_fault, as_join_refused, as_which, bytes_at, joined_number, moved_range, MovesIn, RangeIn, total_by};
 
 use spec::kinds::{Kind, Use, row_of};
 use spec::records::kind_at;
@@ -84,6 +84,7 @@ fn put_records(file: &[u8], from: usize, to: usize, by: u8, out: &mut [u8])
 }
 
 // Writes the record of a sum.
+#[tactic(auto, unfolding(crate::specs::Join::sum_bytes))]
 fn put_sum(out: &mut [u8])
     requires { length out.old ≡ 32 }
     ensures { out.new ≡ sum_bytes }
@@ -124,24 +125,24 @@ fn joined_total(s: Shape, t: Shape) -> usize
 }
 
 // 5, 1, 10 and 14; the joined file has len bytes.
-fn check_joined(s: Shape, t: Shape, len: usize, room: usize) -> Result<(), Fault>
+fn check_joined(s: Shape, t: Shape, len: usize, room: usize) -> Result<(), JoinRefusal>
     requires { (s.total ≤ 1000000000) × (t.total ≤ 1000000000) × (s.fields ≤ 32) × (t.fields ≤ 32) × (s.constraints ≤ 256) × (t.constraints ≤ 256) }
-    ensures { number_of result ≡ joined_number (s.fields + t.fields) (s.constraints + t.constraints) len (total_by s.fields t.fields s.total t.total) room }
+    ensures { as_join_fault result ≡ of joined (refuse (joined_number (s.fields + t.fields) (s.constraints + t.constraints) len (total_by s.fields t.fields s.total t.total) room) 0) }
 {
     if 32 < s.fields + t.fields {
-        return Err(Fault::TooMany);
+        return Err(Which::Both.refused(Fault::TooMany.at(0)));
     }
     if 256 < s.constraints + t.constraints {
-        return Err(Fault::TooMany);
+        return Err(Which::Both.refused(Fault::TooMany.at(0)));
     }
     if 65536 < len {
-        return Err(Fault::WrongLength);
+        return Err(Which::Both.refused(Fault::WrongLength.at(0)));
     }
     if 1_000_000_000 < joined_total(s, t) {
-        return Err(Fault::TooLarge);
+        return Err(Which::Both.refused(Fault::TooLarge.at(0)));
     }
     if room < len {
-        return Err(Fault::OutputShort);
+        return Err(Which::Both.refused(Fault::OutputShort.at(0)));
     }
     Ok(())
 }
@@ -158,14 +159,14 @@ fn join_accepted(
     ensures answer { as_joined result ≡ join_answer (length out.old) first.now second.now }
     ensures out { out.new ≡ join_output first.now second.now out.old }
 {
-    if kind_at(first, s.projector_at) != Kind::Sum {
+    let Kind::Sum = kind_at(first, s.projector_at) else {
         return Err(Which::First.refused(Fault::NotASum.at(s.projector_at + 1)));
-    }
-    if kind_at(second, t.projector_at) != Kind::Sum {
+    };
+    let Kind::Sum = kind_at(second, t.projector_at) else {
         return Err(Which::Second.refused(Fault::NotASum.at(t.projector_at + 1)));
-    }
+    };
     let len = (s.projector_at + t.projector_at + 1) * 32;
-    check_joined(s, t, len, out.len()).map_err(|fault| Which::Both.refused(fault.at(0)))?;
+    check_joined(s, t, len, out.len())?;
     write_joined(first, second, s, t, &mut out[..len]);
     Ok(len)
 }
