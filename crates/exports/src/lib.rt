@@ -1,7 +1,7 @@
 // The calls for other languages, over numbers and slices alone. Each gives a status; the answer stands in a lent array.
 #![tactic(auto)]
 
-ghost use Rattle.std.specs.Prelude.{◌≡◌, true, ◌&&◌, [], ◌∷◌, ◌≤◌, leb, length, take};
+ghost use Rattle.std.specs.Prelude.{◌≡◌, false, true, ◌&&◌, ◌∷◌, ◌≤◌, leb, length, MatchOption};
 ghost use Rattle.lists.specs.Lists.{over};
 ghost use Rattle.spec.specs.Record.{decoded};
 ghost use Rattle.spec.specs.Refusal.{answer, file_fault};
@@ -13,12 +13,13 @@ ghost use Rattle.join.specs.Code.{as_which};
 ghost use Rattle.join.specs.Join.{join_answer, join_output};
 ghost use Rattle.exports.specs.Calls.{answer_words, count_words, engine_of, if_called, is_engine, is_start, join_words, page_words, spec_words, start_of, status, which_number};
 
-use classifier::count::{Counted, count, scratch_for};
-use classifier::page::{Answer, Start, page};
+use classifier::count::{count, scratch_for};
+use classifier::page::page;
 use compose::force::Engine;
-use join::join::{Joined, Which, join};
-use spec::validate::{Validation, validate};
+use join::join::{Which, join};
+use spec::validate::validate;
 
+// The statuses, which are numbers in the C interface.
 const ACCEPTED: u8 = 0;
 
 const REFUSED: u8 = 1;
@@ -27,64 +28,45 @@ const TOO_SHORT: u8 = 2;
 
 const NO_ENGINE: u8 = 3;
 
-// Writes the first four words.
-fn put_four(words: &mut [usize], a: usize, b: usize, c: usize, d: usize)
-    requires { 4 ≤ length words.old }
-    ensures { words.new ≡ over (a ∷ b ∷ c ∷ d ∷ []) words.old }
+// Writes the first words.
+fn put<const N: usize>(words: &mut [usize], answer: [usize; N])
+    requires { N ≤ length words.old }
+    ensures { words.new ≡ over answer.entry words.old }
 {
-    words[0] = a;
-    words[1] = b;
-    words[2] = c;
-    words[3] = d;
+    words[..N].copy_from_slice(&answer);
 }
 
-fn copy_words(from: &[usize], to: &mut [usize])
-    requires { length from.now ≡ length to.old }
-    ensures { to.new ≡ from.now }
+// The 34 words of a page: two numbers and a tuple.
+fn page_answer(count: usize, done: usize, last: [usize; 32]) -> [usize; 34]
+    ensures { result ≡ count ∷ done ∷ last }
 {
-    let mut i = 0;
-    while i < to.len() {
-        to[i] = from[i];
-        i += 1;
+    let mut answer = [0usize; 34];
+    answer[0] = count;
+    answer[1] = done;
+    answer[2..].copy_from_slice(&last);
+    answer
+}
+
+// The engine of a number, if there is one.
+fn engine_of(number: u8) -> Option<Engine>
+    ensures { MatchOption result (is_engine number ≡ false) (λ engine. (is_engine number ≡ true) × (as_engine engine ≡ engine_of number)) }
+{
+    match number {
+        0 => Some(Engine::Structural),
+        1 => Some(Engine::Exhaustive),
+        _ => None,
     }
 }
 
-// Writes the first 34 words: two numbers and a tuple.
-fn put_page(words: &mut [usize], a: usize, b: usize, last: [usize; 32])
-    requires { 34 ≤ length words.old }
-    ensures { words.new ≡ over (a ∷ b ∷ last) words.old }
-{
-    copy_words(&last, &mut words[2..34]);
-    words[0] = a;
-    words[1] = b;
-}
-
-// The first 32 numbers.
-fn tuple_of(numbers: &[usize]) -> [usize; 32]
-    requires { 32 ≤ length numbers.now }
-    ensures { result ≡ take 32 numbers.now }
-{
-    let mut tuple = [0usize; 32];
-    copy_words(&numbers[..32], &mut tuple);
-    tuple
-}
-
-fn start_of(numbers: &[usize]) -> Start
+// The tuple to start after: the first 32 numbers, if any are given.
+fn start_of(numbers: &[usize]) -> Option<[usize; 32]>
     requires { is_start numbers.now ≡ true }
     ensures { as_start result ≡ start_of numbers.now }
 {
-    if numbers.len() == 0 {
-        return Start {
-            given: false,
-            tuple: [0usize; 32],
-        };
-    }
-    Start {
-        given: true,
-        tuple: tuple_of(numbers),
-    }
+    numbers.first_chunk().copied()
 }
 
+// The number that other languages have for the file; it stands here, since only this interface has it.
 fn which_number(which: Which) -> usize
     ensures { result ≡ which_number (as_which which) }
 {
@@ -103,13 +85,13 @@ fn count_into(engine: Engine, file: &[u8], scratch: &mut [i64], words: &mut [usi
     ensures scratch { scratch.new ≡ scratch_after (count_fault (as_engine engine) (length scratch.old) file.now) scratch.old }
 {
     match count(engine, file, scratch) {
-        Counted::Refused(r) => {
-            put_four(words, r.number as usize, r.record, 0, 0);
-            REFUSED
-        }
-        Counted::Counted(c) => {
-            put_four(words, c.total, c.emitted, c.passed, c.failed);
+        Ok(c) => {
+            put(words, [c.total, c.emitted, c.passed, c.failed]);
             ACCEPTED
+        }
+        Err(r) => {
+            put(words, [usize::from(u8::from(r.fault)), r.record, 0, 0]);
+            REFUSED
         }
     }
 }
@@ -120,7 +102,7 @@ fn page_into(
     file: &[u8],
     scratch: &mut [i64],
     out: &mut [i64],
-    start: Start,
+    start: Option<[usize; 32]>,
     words: &mut [usize],
 ) -> u8
     requires { 34 ≤ length words.old }
@@ -129,17 +111,14 @@ fn page_into(
     ensures out { out.new ≡ page_output (as_engine engine) (length scratch.old) file.now (as_start start) out.old }
     ensures scratch { scratch.new ≡ scratch_after (page_fault (as_engine engine) (length scratch.old) (length out.old) file.now (as_start start)) scratch.old }
 {
-    let paged = page(engine, file, scratch, out, start);
-    let last = paged.last;
-    let answer = paged.answer;
-    match answer {
-        Answer::Refused(r) => {
-            put_page(words, r.number as usize, r.record, last);
-            REFUSED
-        }
-        Answer::Written { count, done } => {
-            put_page(words, count, done as usize, last);
+    match page(engine, file, scratch, out, start) {
+        Ok(page) => {
+            put(words, page_answer(page.count, usize::from(page.done), page.last));
             ACCEPTED
+        }
+        Err(r) => {
+            put(words, page_answer(usize::from(u8::from(r.fault)), r.record, [0; 32]));
+            REFUSED
         }
     }
 }
@@ -154,19 +133,21 @@ pub extern "C" fn rules_validate(file: &[u8], words: &mut [usize]) -> u8
         return TOO_SHORT;
     }
     match validate(file) {
-        Validation::Refused(r) => {
-            put_four(words, r.number as usize, r.record, 0, 0);
-            REFUSED
-        }
-        Validation::Accepted(shape) => {
-            put_four(
+        Ok(shape) => {
+            put(
                 words,
-                shape.fields,
-                shape.constraints,
-                shape.total,
-                scratch_for(file),
+                [
+                    shape.fields,
+                    shape.constraints,
+                    shape.total,
+                    scratch_for(file),
+                ],
             );
             ACCEPTED
+        }
+        Err(r) => {
+            put(words, [usize::from(u8::from(r.fault)), r.record, 0, 0]);
+            REFUSED
         }
     }
 }
@@ -186,10 +167,9 @@ pub extern "C" fn rules_count(
     if words.len() < 4 {
         return TOO_SHORT;
     }
-    match engine {
-        0 => count_into(Engine::Structural, file, scratch, words),
-        1 => count_into(Engine::Exhaustive, file, scratch, words),
-        _ => NO_ENGINE,
+    match engine_of(engine) {
+        Some(engine) => count_into(engine, file, scratch, words),
+        None => NO_ENGINE,
     }
 }
 
@@ -214,11 +194,9 @@ pub extern "C" fn rules_page(
     if (start.len() != 0) & (start.len() < 32) {
         return TOO_SHORT;
     }
-    let from = start_of(start);
-    match engine {
-        0 => page_into(Engine::Structural, file, scratch, out, from, words),
-        1 => page_into(Engine::Exhaustive, file, scratch, out, from, words),
-        _ => NO_ENGINE,
+    match engine_of(engine) {
+        Some(engine) => page_into(engine, file, scratch, out, start_of(start), words),
+        None => NO_ENGINE,
     }
 }
 
@@ -233,13 +211,13 @@ pub extern "C" fn rules_join(first: &[u8], second: &[u8], out: &mut [u8], words:
         return TOO_SHORT;
     }
     match join(first, second, out) {
-        Joined::Length(len) => {
-            put_four(words, len, 0, 0, 0);
+        Ok(len) => {
+            put(words, [len, 0, 0, 0]);
             ACCEPTED
         }
-        Joined::Refused(r) => {
-            let which = r.which;
-            put_four(words, r.number as usize, r.record, which_number(which), 0);
+        Err(r) => {
+            let number = usize::from(u8::from(r.why.fault));
+            put(words, [number, r.why.record, which_number(r.which), 0]);
             REFUSED
         }
     }

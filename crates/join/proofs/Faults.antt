@@ -11,20 +11,21 @@ use lib.ListN.{drop, get_or, length, length-append, length-drop, length-map, set
 use lib.Seq.{length-take-le, set-get_or}
 use Rattle.lists.proofs.Lists.{concat_map_append}
 use Rattle.lists.proofs.Tests.{eqb_no, eqb_yes, no_ge, or_split}
-use Rattle.spec.specs.Code.{as_answer, as_shape}
+use Rattle.spec.specs.Code.{as_answer, as_kind, as_refused, as_shape, kind_number}
+use Rattle.std.specs.Prelude.{Err, Ok, Result}
 use Rattle.spec.specs.Domain.{too_many, total}
-use Rattle.spec.specs.Kind.{kind_of, row_of}
-use Rattle.spec.specs.Record.{decoded, groups, parts_of, record_at, records_of, spec_of}
+use Rattle.spec.specs.Kind.{kind_of, projector, row_of, sum}
+use Rattle.spec.specs.Record.{decoded, groups, parts_of, record_at, record_of, records_of, spec_of}
 use Rattle.spec.specs.Refusal.{Answer, Refused, ◌▷◌, accepted, answer, file_fault, refuse, refuse_if, refused}
 use Rattle.spec.specs.Shape as shapes
 use Rattle.spec.specs.Shape.{shape_of}
 use Rattle.spec.specs.Spec.{FieldSpec, Spec}
+use Rattle.spec.specs.declared.kinds.Kind as kinds'
 use Rattle.spec.specs.declared.refusal.Refusal as code'
 use Rattle.spec.specs.declared.validate.Shape as code
-use Rattle.spec.specs.declared.validate.Validation.{Validation}
-use Rattle.spec.specs.declared.validate.Validation.TheVariants as validation
 use Rattle.spec.proofs.Accepted.{count-fields, decoded-few, file_good}
 use Rattle.spec.proofs.Files.{laid, length_laid}
+use Rattle.spec.proofs.Known.{named}
 use Rattle.spec.proofs.Sections.{field_heads}
 use Rattle.join.specs.Code.{RangeIn, joined_number, moved_range, refusal_of, total_by}
 use Rattle.join.specs.Join.{JoinRefused, add_if, field_count, first, is_sum, join_answer, join_bytes, join_fault, join_output, join_parts, join_spec, joined, move_bytes, moves, of, projector_at, second, section, sum_bytes, too_many_records}
@@ -34,28 +35,20 @@ use Rattle.join.proofs.Verdicts.{total-join}
 use Rattle.join.proofs.Written.{length_parts}
 
 -- ---- what validate told
-module _ (file : List ℕ) (v : Validation) (e : as_answer v ≡ answer (file_fault file) (shape_of file)) where
-  pub told_accepted : (s : code.Shape) → v ≡ validation.Accepted s → (file_fault file ≡ none) × (as_shape s ≡ shape_of file)
+module _ (file : List ℕ) (v : Result code.Shape code'.Refusal) (e : as_answer v ≡ answer (file_fault file) (shape_of file)) where
+  pub told_accepted : (s : code.Shape) → v ≡ Ok s → (file_fault file ≡ none) × (as_shape s ≡ shape_of file)
   told_accepted s q = go (file_fault file) (sym (ap as_answer q) ∙ e)
     where
-      shape_in : Answer Refused shapes.Shape → shapes.Shape
-      shape_in (accepted x) = x
-      shape_in (refused r) = as_shape s
-
       go : (o : Option Refused) → accepted (as_shape s) ≡ answer o (shape_of file) → (o ≡ none) × (as_shape s ≡ shape_of file)
-      go none e = (refl, ap shape_in e)
-      go (some r) e = let z : ◌≡◌ {A = ℕ} 0 1 = cc in absurd (omega arith)
+      go none e = (refl, cc)
+      go (some r) e = cc
 
-  pub told_refused : (r : code'.Refusal) → v ≡ validation.Refused r → file_fault file ≡ some (record { number = r.number; at = r.record })
+  pub told_refused : (r : code'.Refusal) → v ≡ Err r → file_fault file ≡ some (as_refused r)
   told_refused r q = go (file_fault file) (sym (ap as_answer q) ∙ e)
     where
-      why : Answer Refused shapes.Shape → Refused
-      why (accepted x) = record { number = r.number; at = r.record }
-      why (refused x) = x
-
-      go : (o : Option Refused) → refused (record { number = r.number; at = r.record }) ≡ answer o (shape_of file) → o ≡ some (record { number = r.number; at = r.record })
-      go none e = let z : ◌≡◌ {A = ℕ} 0 1 = cc in absurd (omega arith)
-      go (some x) e = ap some (sym (ap why e))
+      go : (o : Option Refused) → refused (as_refused r) ≡ answer o (shape_of file) → o ≡ some (as_refused r)
+      go none e = cc
+      go (some x) e = cc
 
 -- ---- the total of a joined file
 pub total_joined : (s t : Spec) → total (join_spec s t) ≡ total_by (length s.fields) (length t.fields) (total s) (total t)
@@ -80,6 +73,11 @@ chain false true c d = refl
 chain false false true d = refl
 chain false false false true = refl
 chain false false false false = refl
+
+-- Where nothing is refused the number is 0.
+pub unrefused : (n : ℕ) → none ≡ of joined (refuse n 0) → n ≡ 0
+unrefused zero e = refl
+unrefused (suc n) e = cc
 
 pub refuse-number : (n : ℕ) → ¬ (n ≡ 0) → of joined (refuse n 0) ≡ some (refusal_of joined n 0)
 refuse-number zero h = absurd (h refl)
@@ -176,13 +174,18 @@ shaped file s good e =
       total-few = omega (arith, all, sized);
     }
 
--- Its projector is a sum exactly when the code read there is 30.
-module _ {file : List ℕ} {s : code.Shape} (u : Shaped file s) (kind : ℕ) (e : kind ≡ (record_at file s.projector_at).code) where
-  pub sum_yes : kind ≡ 30 → is_sum (decoded file).projector ≡ true
-  sum_yes h = u.ranges.sum_is ∙ eqb_yes (record_at file s.projector_at).code 30 (sym e ∙ h)
+-- The shapes of two accepted files.
+pub both_shaped : (f g : List ℕ) (s t : code.Shape) → (file_fault f ≡ none) × (file_fault g ≡ none) × (as_shape s ≡ shape_of f) × (as_shape t ≡ shape_of g) → Shaped f s × Shaped g t
+both_shaped f g s t h = (shaped f s h.0 h.2, shaped g t h.1 h.3)
 
-  pub sum_no : ¬ (kind ≡ 30) → is_sum (decoded file).projector ≡ false
-  sum_no h = u.ranges.sum_is ∙ eqb_no (record_at file s.projector_at).code 30 (λ q. h (e ∙ q))
+-- Its projector is a sum exactly when the kind read there is that of a sum.
+module _ {file : List ℕ} {s : code.Shape} (u : Shaped file s) (kind : kinds'.Kind) (e : as_kind kind ≡ (record_at file s.projector_at).kind) (n : kind_number kind ≡ (record_at file s.projector_at).code) where
+  pub sum_yes : kind ≡ kinds'.TheVariants.Sum → is_sum (decoded file).projector ≡ true
+  sum_yes h = u.ranges.sum_is ∙ eqb_yes (record_at file s.projector_at).code 30 (sym n ∙ ap kind_number h)
+
+  pub sum_no : ¬ (kind ≡ kinds'.TheVariants.Sum) → is_sum (decoded file).projector ≡ false
+  unfolding record_of kind_of
+  sum_no h = u.ranges.sum_is ∙ eqb_no (record_at file s.projector_at).code 30 (λ q. h (named kind (projector sum) (e ∙ ap kind_of q) (λ z. cc)))
 
 -- The two ranges, with fields moved up by at most 32.
 module _ {file : List ℕ} {s : code.Shape} (u : Shaped file s) (n : ℕ) (l : n ≤ 32) where

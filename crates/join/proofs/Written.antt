@@ -11,9 +11,9 @@ use lib.ListN.{drop, get_or, length, length-append, length-drop, length-map, rep
 use lib.Seq.{drop-drop, get_or-drop, get_or-take, length_front, length-take-le, take_all, take_at, take-suc}
 use Rattle.lists.proofs.Lists.{concat_map_append, map_append}
 use Rattle.lists.proofs.Tests.{leb_no, leb_yes, ltb_no, ltb_yes}
-use Rattle.spec.specs.Code.{code_row, code_use}
+use Rattle.spec.specs.Code.{as_row}
 use Rattle.spec.specs.Kind as kinds
-use Rattle.spec.specs.Kind.{Use, kind_of, names, natural, number, own, row_of, unused}
+use Rattle.spec.specs.Kind.{kind_of, row_of}
 use Rattle.spec.specs.Record.{chunks, parts_of, record_of, records_of}
 use Rattle.spec.specs.declared.kinds.Row as code
 use Rattle.spec.proofs.Fields.{length_records}
@@ -51,49 +51,14 @@ pub sum_set : set (replicate 32 0) 0 30 ≡ sum_bytes
 unfolding sum_bytes
 sum_set = refl
 
--- ---- a number of a record
-pub moved_yes : (kind n x : ℕ) → 3 ≤ kind → add_use kind n x ≡ n + x
-moved_yes kind n x h = rw (leb_yes 3 kind h)
-
-pub moved_no : (kind n x : ℕ) → kind < 3 → add_use kind n x ≡ x
-moved_no kind n x h = rw (leb_no 3 kind h)
-
--- The numbers of uses from 3 on are those of fields.
-use_moves : (u : Use) → leb 3 (code_use u) ≡ moves u
-use_moves unused = refl
-use_moves number = refl
-use_moves natural = refl
-use_moves own = refl
-use_moves names = refl
-
-pub add_use_is : (u : Use) (n x : ℕ) → add_use (code_use u) n x ≡ add_if (moves u) n x
-add_use_is u n x = ap (λ (b : Bool). add_if b n x) (use_moves u)
-
 -- ---- one record
-module _ (file : List ℕ) (i : ℕ) where
-  byte : (k : ℕ) → k < 32 → get_or (bytes_at file i) k 0 ≡ get_or file (i * 32 + k) 0
-  byte k h = get_or-take 32 (drop (i * 32) file) k 0 h ∙ get_or-drop (i * 32) file k 0
-
-  -- The kind and the form, as they are read.
-  abbrev read_row : kinds.Row
-  read_row = row_of (kind_of (get_or (bytes_at file i) 0 0)) (get_or (bytes_at file i) 2 0)
-
-  module _ (row : code.Row) (form : ℕ) (e : row ≡ code_row (row_of (kind_of (get_or file (i * 32) 0)) form)) (f : form ≡ get_or file (i * 32 + 2) 0) where
-    row_is : row ≡ code_row read_row
-    row_is =
-        e
-        ∙ ap₂ (λ (k b : ℕ). code_row (row_of (kind_of k) b)) (ap (λ (k : ℕ). get_or file k 0) (sym (add-zero (i * 32))) ∙ sym (byte 0 (omega arith))) (f ∙ sym (byte 2 (omega arith)))
-
-    pub a_moved : (n : ℕ) → add_use row.a n (get_or file (i * 32 + 1) 0) ≡ add_if (moves (row_of (kind_of (get_or (bytes_at file i) 0 0)) (get_or (bytes_at file i) 2 0)).a) n (get_or (bytes_at file i) 1 0)
-    a_moved n = ap₂ (λ (w : code.Row) (x : ℕ). add_use w.a n x) row_is (sym (byte 1 (omega arith))) ∙ add_use_is read_row.a n (get_or (bytes_at file i) 1 0)
-
-    pub b_moved : (n : ℕ) → add_use row.b n (get_or file (i * 32 + 2) 0) ≡ add_if (moves (row_of (kind_of (get_or (bytes_at file i) 0 0)) (get_or (bytes_at file i) 2 0)).b) n (get_or (bytes_at file i) 2 0)
-    b_moved n = ap₂ (λ (w : code.Row) (x : ℕ). add_use w.b n x) row_is (sym (byte 2 (omega arith))) ∙ add_use_is read_row.b n (get_or (bytes_at file i) 2 0)
-
-    -- The copied record with its two numbers moved.
-    pub record_moved : (n x y : ℕ) (out : List ℕ) → out ≡ bytes_at file i → x ≡ add_use row.a n (get_or file (i * 32 + 1) 0) → y ≡ add_use row.b n (get_or file (i * 32 + 2) 0) → set (set out 1 x) 2 y ≡ move_bytes n (bytes_at file i)
-    unfolding move_bytes
-    record_moved n x y out o a b = ap (λ (l : List ℕ). set (set l 1 x) 2 y) o ∙ ap₂ (λ (u v : ℕ). set (set (bytes_at file i) 1 u) 2 v) (a ∙ a_moved n) (b ∙ b_moved n)
+-- The bytes copied with their two numbers moved.
+pub record_moved : (bytes : List ℕ) (row : code.Row) (n x y : ℕ) (out : List ℕ) → as_row row ≡ row_of (kind_of (get_or bytes 0 0)) (get_or bytes 2 0)
+    → out ≡ bytes → x ≡ add_use row.a n (get_or bytes 1 0) → y ≡ add_use row.b n (get_or bytes 2 0) → set (set out 1 x) 2 y ≡ move_bytes n bytes
+unfolding move_bytes
+record_moved bytes row n x y out e o a b =
+    ap (λ (l : List ℕ). set (set l 1 x) 2 y) o
+    ∙ ap₂ (λ (u v : ℕ). set (set bytes 1 u) 2 v) (a ∙ ap (λ (w : kinds.Row). add_if (moves w.a) n (get_or bytes 1 0)) e) (b ∙ ap (λ (w : kinds.Row). add_if (moves w.b) n (get_or bytes 2 0)) e)
 
 -- ---- a range of records
 -- Part i of a file is the bytes of record i.

@@ -1,14 +1,16 @@
 -- What the code computes on the way, in terms of the definitions.
-use Rattle.std.specs.Prelude.{◌||◌, cond, List, map, ℕ, zero, suc, ◌*◌, ◌-◌, ◌/◌, ◌≤◌, ◌<◌, leb, ltb, drop, get_or, length, take}
+use Rattle.std.specs.Prelude.{◌||◌, cond, List, map, ℕ, zero, suc, ◌*◌, ◌-◌, ◌/◌, ◌≤◌, ◌<◌, ltb, drop, get_or, length, take, Result, Ok, Err}
+use Rattle.std.proofs.Math.Option.{Option, none, some}
 use Rattle.lists.specs.Lists.{concat_map}
+use Rattle.spec.specs.Code.{as_refused, as_use}
 use Rattle.spec.specs.Kind.{kind_of, row_of}
 use Rattle.spec.specs.Record.{parts_of}
 use Rattle.spec.specs.Refusal.{Answer, accepted, refused}
+use Rattle.spec.specs.declared.kinds.Use.{Use}
 use Rattle.join.specs.Join.{JoinRefused, Which, add_if, first, joined, move_bytes, moves, second}
 use Rattle.join.specs.declared.join.Which as code
 use Rattle.join.specs.declared.join.Which.TheVariants as whiches
-use Rattle.join.specs.declared.join.Joined.{Joined}
-use Rattle.join.specs.declared.join.Joined.TheVariants as answers
+use Rattle.join.specs.declared.join.JoinRefusal.{JoinRefusal}
 
 -- The bytes of record i.
 abbrev pub bytes_at : List ℕ → ℕ → List ℕ
@@ -29,9 +31,9 @@ pub record RangeIn (file : List ℕ) (from to n : ℕ) : Type 0 where
   pub inside : to ≤ length file / 32
   pub moves_in : (i : ℕ) → from ≤ i → i < to → MovesIn n (bytes_at file i)
 
--- A number of a record whose use is given by its number: 3 and 4 are fields.
-abbrev pub add_use : ℕ → ℕ → ℕ → ℕ
-add_use kind n x = add_if (leb 3 kind) n x
+-- A number of a record, moved up by n where its use is that of a field's number.
+abbrev pub add_use : Use → ℕ → ℕ → ℕ
+add_use used n x = add_if (moves (as_use used)) n x
 
 -- The total of a joined file with n and m fields.
 abbrev pub total_by : (n m x y : ℕ) → ℕ
@@ -52,6 +54,13 @@ as_which whiches.First = first
 as_which whiches.Second = second
 as_which whiches.Both = joined
 
-abbrev pub as_joined : Joined → Answer JoinRefused ℕ
-as_joined (answers.Length n) = accepted n
-as_joined (answers.Refused r) = refused (record { which = as_which r.which; why = record { number = r.number; at = r.record } })
+abbrev pub as_join_refused : JoinRefusal → JoinRefused
+as_join_refused r = record { which = as_which r.which; why = as_refused r.why }
+
+abbrev pub as_join_fault : Result (Unit {0}) JoinRefusal → Option JoinRefused
+as_join_fault (Ok x) = none
+as_join_fault (Err r) = some (as_join_refused r)
+
+abbrev pub as_joined : Result ℕ JoinRefusal → Answer JoinRefused ℕ
+as_joined (Ok n) = accepted n
+as_joined (Err r) = refused (as_join_refused r)

@@ -1,65 +1,59 @@
 // Two files as one: first's fields, second's renumbered, constraints likewise, one sum.
-ghost use Rattle.std.specs.Prelude.{◌≡◌, ◌+◌, ◌-◌, ◌*◌, ◌/◌, ◌≤◌, ◌<◌, drop, length, take};
+ghost use Rattle.std.specs.Prelude.{◌≡◌, ◌+◌, ◌-◌, ◌*◌, ◌/◌, ◌≤◌, ◌<◌, length};
 ghost use Rattle.std.proofs.Math.Option.{none};
-ghost use Rattle.spec.specs.Code.{as_shape};
-ghost use Rattle.spec.specs.Refusal.{file_fault, refused};
+ghost use Rattle.spec.specs.Code.{as_refused, as_shape};
+ghost use Rattle.spec.specs.Refusal.{file_fault, refuse};
 ghost use Rattle.spec.specs.Shape.{shape_of};
-ghost use Rattle.join.specs.Join.{join_answer, join_bytes, join_output, move_bytes, sum_bytes};
-ghost use Rattle.join.specs.Code.{add_use, as_joined, as_which, bytes_at, joined_number, moved_range, MovesIn, RangeIn, refusal_of, total_by};
+ghost use Rattle.join.specs.Join.{join_answer, join_bytes, join_output, joined, move_bytes, of, sum_bytes};
+ghost use Rattle.join.specs.Code.{add_use, as_joined, as_join_fault, as_join_refused, as_which, bytes_at, joined_number, moved_range, MovesIn, RangeIn, total_by};
 
-use spec::kinds::{OWN, row_of};
-use spec::numbers::small;
-use spec::records::code_at;
-use spec::validate::{Shape, Validation, validate};
+use spec::kinds::{Kind, Use, row_of};
+use spec::records::kind_at;
+use spec::refusal::{Fault, Refusal};
+use spec::validate::{Shape, validate};
+use std::fmt;
 
 // The file that a refusal is about; the joined file is both.
-#[derive(Clone, Copy)]
+#[derive(Clone, Copy, PartialEq, Eq)]
 pub enum Which {
     First,
     Second,
     Both,
 }
 
+impl fmt::Display for Which {
+    fn fmt<W: fmt::Write>(&self, f: &mut fmt::Formatter<W>) -> fmt::Result {
+        f.write_str(match self {
+            Which::First => "first",
+            Which::Second => "second",
+            Which::Both => "joined",
+        })
+    }
+}
+
+// Why two files are not joined.
 #[derive(Clone, Copy)]
 pub struct JoinRefusal {
     pub which: Which,
-    pub number: u8,
-    pub record: usize,
+    pub why: Refusal,
 }
 
-#[derive(Clone, Copy)]
-pub enum Joined {
-    Length(usize),
-    Refused(JoinRefusal),
-}
-
-fn refuse(which: Which, number: u8, at: usize) -> Joined
-    ensures { as_joined result ≡ refused (refusal_of (as_which which) number at) }
-{
-    Joined::Refused(JoinRefusal {
-        which,
-        number,
-        record: at,
-    })
+impl Which {
+    fn refused(self, why: Refusal) -> JoinRefusal
+        ensures { as_join_refused result ≡ record { which = as_which self; why = as_refused why } }
+    {
+        JoinRefusal { which: self, why }
+    }
 }
 
 // A number of a record: moved up where it is the number of a field.
-fn moved(kind_use: u8, x: u8, by: u8) -> u8
-    requires { add_use kind_use by x < 256 }
-    ensures { result ≡ add_use kind_use by x }
+fn moved(used: Use, x: u8, by: u8) -> u8
+    requires { add_use used by x < 256 }
+    ensures { result ≡ add_use used by x }
 {
-    if OWN <= kind_use { by + x } else { x }
-}
-
-// Writes the 32 bytes from a place on.
-fn copy_record(file: &[u8], from: usize, out: &mut [u8])
-    requires { (from + 32 ≤ length file.now) × (length out.old ≡ 32) }
-    ensures { out.new ≡ take 32 (drop from file.now) }
-{
-    let mut j = 0;
-    while j < 32 {
-        out[j] = file[from + j];
-        j += 1;
+    match used {
+        Use::Own | Use::Names => by + x,
+        Use::Unused | Use::Number | Use::Natural => x,
     }
 }
 
@@ -69,11 +63,11 @@ fn put_record(file: &[u8], i: usize, by: u8, out: &mut [u8])
     ensures { out.new ≡ move_bytes by (bytes_at file.now i) }
 {
     let from = i * 32;
-    let code = file[from];
-    let a = file[from + 1];
-    let b = file[from + 2];
-    let row = row_of(code, small(b));
-    copy_record(file, from, out);
+    let record = &file[from..from + 32];
+    let a = record[1];
+    let b = record[2];
+    let row = row_of(Kind::from(record[0]), usize::from(b));
+    out.copy_from_slice(record);
     out[1] = moved(row.a, a, by);
     out[2] = moved(row.b, b, by);
 }
@@ -83,26 +77,19 @@ fn put_records(file: &[u8], from: usize, to: usize, by: u8, out: &mut [u8])
     requires { RangeIn file.now from to by × (length out.old ≡ (to - from) * 32) }
     ensures { out.new ≡ moved_range by file.now from to }
 {
-    let mut i = from;
-    let mut at = 0;
-    while i < to {
-        let end = at + 32;
-        put_record(file, i, by, &mut out[at..end]);
-        at = end;
-        i += 1;
+    for i in from..to {
+        let at = (i - from) * 32;
+        put_record(file, i, by, &mut out[at..at + 32]);
     }
 }
 
 // Writes the record of a sum.
+#[tactic(auto, unfolding(crate::specs::Join::sum_bytes))]
 fn put_sum(out: &mut [u8])
     requires { length out.old ≡ 32 }
     ensures { out.new ≡ sum_bytes }
 {
-    let mut j = 0;
-    while j < 32 {
-        out[j] = 0;
-        j += 1;
-    }
+    out.fill(0);
     out[0] = 30;
 }
 
@@ -137,69 +124,59 @@ fn joined_total(s: Shape, t: Shape) -> usize
     s.total * t.total
 }
 
-// 5, 1, 10 and 14, or 0; the joined file has len bytes.
-fn joined_number(s: Shape, t: Shape, len: usize, room: usize) -> u8
+// 5, 1, 10 and 14; the joined file has len bytes.
+fn check_joined(s: Shape, t: Shape, len: usize, room: usize) -> Result<(), JoinRefusal>
     requires { (s.total ≤ 1000000000) × (t.total ≤ 1000000000) × (s.fields ≤ 32) × (t.fields ≤ 32) × (s.constraints ≤ 256) × (t.constraints ≤ 256) }
-    ensures { result ≡ joined_number (s.fields + t.fields) (s.constraints + t.constraints) len (total_by s.fields t.fields s.total t.total) room }
+    ensures { as_join_fault result ≡ of joined (refuse (joined_number (s.fields + t.fields) (s.constraints + t.constraints) len (total_by s.fields t.fields s.total t.total) room) 0) }
 {
     if 32 < s.fields + t.fields {
-        return 5;
+        return Err(Which::Both.refused(Fault::TooMany.at(0)));
     }
     if 256 < s.constraints + t.constraints {
-        return 5;
+        return Err(Which::Both.refused(Fault::TooMany.at(0)));
     }
     if 65536 < len {
-        return 1;
+        return Err(Which::Both.refused(Fault::WrongLength.at(0)));
     }
     if 1_000_000_000 < joined_total(s, t) {
-        return 10;
+        return Err(Which::Both.refused(Fault::TooLarge.at(0)));
     }
     if room < len {
-        return 14;
+        return Err(Which::Both.refused(Fault::OutputShort.at(0)));
     }
-    0
+    Ok(())
 }
 
 // Both files are accepted by 1 to 10.
-fn join_accepted(first: &[u8], second: &[u8], s: Shape, t: Shape, out: &mut [u8]) -> Joined
+fn join_accepted(
+    first: &[u8],
+    second: &[u8],
+    s: Shape,
+    t: Shape,
+    out: &mut [u8],
+) -> Result<usize, JoinRefusal>
     requires { (file_fault first.now ≡ none) × (file_fault second.now ≡ none) × (as_shape s ≡ shape_of first.now) × (as_shape t ≡ shape_of second.now) }
     ensures answer { as_joined result ≡ join_answer (length out.old) first.now second.now }
     ensures out { out.new ≡ join_output first.now second.now out.old }
 {
-    if code_at(first, s.projector_at) != 30 {
-        return refuse(Which::First, 16, s.projector_at + 1);
-    }
-    if code_at(second, t.projector_at) != 30 {
-        return refuse(Which::Second, 16, t.projector_at + 1);
-    }
+    let Kind::Sum = kind_at(first, s.projector_at) else {
+        return Err(Which::First.refused(Fault::NotASum.at(s.projector_at + 1)));
+    };
+    let Kind::Sum = kind_at(second, t.projector_at) else {
+        return Err(Which::Second.refused(Fault::NotASum.at(t.projector_at + 1)));
+    };
     let len = (s.projector_at + t.projector_at + 1) * 32;
-    let number = joined_number(s, t, len, out.len());
-    if number != 0 {
-        return refuse(Which::Both, number, 0);
-    }
+    check_joined(s, t, len, out.len())?;
     write_joined(first, second, s, t, &mut out[..len]);
-    Joined::Length(len)
-}
-
-// The second file is judged after the first.
-fn join_first(first: &[u8], second: &[u8], s: Shape, out: &mut [u8]) -> Joined
-    requires { (file_fault first.now ≡ none) × (as_shape s ≡ shape_of first.now) }
-    ensures answer { as_joined result ≡ join_answer (length out.old) first.now second.now }
-    ensures out { out.new ≡ join_output first.now second.now out.old }
-{
-    match validate(second) {
-        Validation::Refused(r) => refuse(Which::Second, r.number, r.record),
-        Validation::Accepted(t) => join_accepted(first, second, s, t, out),
-    }
+    Ok(len)
 }
 
 // The joined file, at the start of the output, and its length; or the refusal.
-pub fn join(first: &[u8], second: &[u8], out: &mut [u8]) -> Joined
+pub fn join(first: &[u8], second: &[u8], out: &mut [u8]) -> Result<usize, JoinRefusal>
     ensures answer { as_joined result ≡ join_answer (length out.old) first.now second.now }
     ensures out { out.new ≡ join_output first.now second.now out.old }
 {
-    match validate(first) {
-        Validation::Refused(r) => refuse(Which::First, r.number, r.record),
-        Validation::Accepted(s) => join_first(first, second, s, out),
-    }
+    let s = validate(first).map_err(|why| Which::First.refused(why))?;
+    let t = validate(second).map_err(|why| Which::Second.refused(why))?;
+    join_accepted(first, second, s, t, out)
 }

@@ -4,7 +4,7 @@
 ghost use Rattle.std.specs.Prelude.{IfOk, IfSome};
 ghost use Rattle.listing.specs.Counts.{IsPrefixLen};
 
-use join::join::{JoinRefusal, Joined, Which, join};
+use join::join::join;
 use program::{ROOM, read_file};
 use std::rt::Files;
 use std::{env, io};
@@ -23,20 +23,14 @@ fn read_argument<R: Files + Eprint>(
     }
 }
 
-fn print_refusal(rt: &impl Eprint, r: JoinRefusal) -> io::Result<()> {
-    let which = match r.which {
-        Which::First => "first",
-        Which::Second => "second",
-        Which::Both => "joined",
-    };
-    eprintln!(rt; "refused {which} {} {}", r.number, r.record)
-}
-
 fn print_joined<R: Print + Eprint>(rt: &R, first: &[u8], second: &[u8]) -> io::Result<()> {
     let mut out = [0u8; 65536];
     match join(first, second, &mut out) {
-        Joined::Length(len) => rt.write_all(&out[..len]),
-        Joined::Refused(r) => print_refusal(rt, r),
+        Ok(len) => rt.write_all(&out[..len]),
+        Err(r) => {
+            let (which, number, record) = (r.which, u8::from(r.why.fault), r.why.record);
+            eprintln!(rt; "refused {which} {number} {record}")
+        }
     }
 }
 

@@ -1,18 +1,19 @@
 // Text put into a lent buffer from `at` on. Each call gives the place after what it put there.
 ghost use Rattle.std.specs.Prelude.{◌≡◌, true, [], ◌∷◌, ◌+◌, ◌≤◌, pos, length, take};
 ghost use Rattle.std.proofs.lemmas.List.Edits.{sets};
-ghost use Rattle.spec.specs.Code.{as_answer};
+ghost use Rattle.spec.specs.Code.{as_answer, as_refused};
+ghost use Rattle.registry.specs.Code.{as_projection};
 ghost use Rattle.lists.specs.Lists.{concat_map};
 ghost use Rattle.lists.specs.Integers.{eq_z};
 ghost use Rattle.classifier.specs.Code.{as_counts};
 ghost use Rattle.listing.specs.Counts.{IsPrefixLen};
-ghost use Rattle.listing.specs.Text.{decimal, signed_decimal, spaced, refusal, refused_line, end_line, accepted_line, answer_line};
-ghost use Rattle.listing.specs.Words.{after_if, bytes_for, can_list, has_room, line_of, lines_of, projection_if, put_if};
+ghost use Rattle.listing.specs.Text.{decimal, signed_decimal, spaced, projection_text, refused_line, end_line, accepted_line, answer_line};
+ghost use Rattle.listing.specs.Words.{after_if, bytes_for, can_list, has_room, line_of, lines_of, put_if};
 
 use classifier::count::Counts;
 use itoa::Buffer;
 use spec::refusal::Refusal;
-use spec::validate::Validation;
+use spec::validate::Shape;
 
 fn put_byte(out: &mut [u8], at: usize, byte: u8) -> usize
     requires { at + 1 ≤ length out.old }
@@ -28,12 +29,9 @@ fn put_word(out: &mut [u8], at: usize, word: &[u8]) -> usize
     ensures out_after { out.new ≡ sets out.old at word.now }
     ensures value { result ≡ at + length word.now }
 {
-    let mut i = 0;
-    while i < word.len() {
-        out[at + i] = word[i];
-        i += 1;
-    }
-    at + i
+    let end = at + word.len();
+    out[at..end].copy_from_slice(word);
+    end
 }
 
 // A number has at most 20 digits.
@@ -59,15 +57,15 @@ fn put_spaced(out: &mut [u8], at: usize, number: u64) -> usize
 }
 
 // The line of a refusal: at most 50 bytes.
-fn put_refused(out: &mut [u8], at: usize, number: u64, record_number: u64) -> usize
+fn put_refused(out: &mut [u8], at: usize, r: Refusal) -> usize
     requires { at + 50 ≤ length out.old }
-    ensures out_after { out.new ≡ sets out.old at (refused_line (refusal number record_number)) }
-    ensures value { result ≡ at + length (refused_line (refusal number record_number)) }
+    ensures out_after { out.new ≡ sets out.old at (refused_line (as_refused r)) }
+    ensures value { result ≡ at + length (refused_line (as_refused r)) }
     ensures upper_bound { result ≤ at + 50 }
 {
     let numbers = put_word(out, at, b"refused");
-    let records = put_spaced(out, numbers, number);
-    let end = put_spaced(out, records, record_number);
+    let records = put_spaced(out, numbers, u64::from(u8::from(r.fault)));
+    let end = put_spaced(out, records, r.record as u64);
     put_byte(out, end, b'\n')
 }
 
@@ -116,25 +114,23 @@ fn put_values(out: &mut [u8], at: usize, numbers: &[i64]) -> usize
     ensures upper_bound { result ≤ at + bytes_for (length numbers.now) }
 {
     let mut next = at;
-    let mut i = 0;
-    while i < numbers.len() {
-        next = put_value(out, next, numbers[i]);
-        i += 1;
+    for number in numbers {
+        next = put_value(out, next, *number);
     }
     next
 }
 
 // A space, then the projection, or - where there is none.
-fn put_projection(out: &mut [u8], at: usize, has: i64, number: i64) -> usize
+fn put_projection(out: &mut [u8], at: usize, projection: Option<i64>) -> usize
     requires { at + 21 ≤ length out.old }
-    ensures out_after { out.new ≡ sets out.old at (spaced (projection_if (eq_z has (pos 1)) number)) }
-    ensures value { result ≡ at + length (spaced (projection_if (eq_z has (pos 1)) number)) }
+    ensures out_after { out.new ≡ sets out.old at (spaced (projection_text (as_projection projection))) }
+    ensures value { result ≡ at + length (spaced (projection_text (as_projection projection))) }
     ensures upper_bound { result ≤ at + 21 }
 {
-    if has == 1 {
-        return put_value(out, at, number);
+    match projection {
+        Some(number) => put_value(out, at, number),
+        None => put_word(out, at, b" -"),
     }
-    put_word(out, at, b" -")
 }
 
 // The line of a verdict, from its page words.
@@ -147,7 +143,8 @@ fn put_line(out: &mut [u8], at: usize, words: &[i64]) -> usize
     let letter = if words[0] == 1 { b'P' } else { b'F' };
     let places = put_byte(out, at, letter);
     let projections = put_value(out, places, words[1]);
-    let values = put_projection(out, projections, words[2], words[3]);
+    let projection = if words[2] == 1 { Some(words[3]) } else { None };
+    let values = put_projection(out, projections, projection);
     let end = put_values(out, values, &words[4..]);
     put_byte(out, end, b'\n')
 }
@@ -160,12 +157,9 @@ fn put_lines(out: &mut [u8], words: &[i64], count: usize, width: usize) -> usize
     ensures upper_bound { result ≤ length out.old }
 {
     let mut next = 0;
-    let mut i = 0;
-    while i < count {
+    for i in 0..count {
         let from = i * width;
-        let to = from + width;
-        next = put_line(out, next, &words[from..to]);
-        i += 1;
+        next = put_line(out, next, &words[from..from + width]);
     }
     next
 }
@@ -209,8 +203,8 @@ pub fn put_end(out: &mut [u8], at: usize, c: Counts) -> usize
 
 // The line of a refusal: it takes at most 50 bytes; without room for them nothing is put.
 pub fn put_refusal(out: &mut [u8], at: usize, r: Refusal) -> usize
-    ensures out_after { out.new ≡ put_if (has_room out.old at 50) (refused_line (refusal r.number r.record)) at out.old }
-    ensures value { result ≡ after_if (has_room out.old at 50) (refused_line (refusal r.number r.record)) at }
+    ensures out_after { out.new ≡ put_if (has_room out.old at 50) (refused_line (as_refused r)) at out.old }
+    ensures value { result ≡ after_if (has_room out.old at 50) (refused_line (as_refused r)) at }
 {
     if out.len() < at {
         return at;
@@ -218,19 +212,17 @@ pub fn put_refusal(out: &mut [u8], at: usize, r: Refusal) -> usize
     if out.len() - at < 50 {
         return at;
     }
-    put_refused(out, at, r.number as u64, r.record as u64)
+    put_refused(out, at, r)
 }
 
 // The line for what `validate` answered, at the start of `text`; how many bytes.
-pub fn put_answer(text: &mut [u8; 64], judged: Validation) -> usize
+pub fn put_answer(text: &mut [u8; 64], judged: Result<Shape, Refusal>) -> usize
     ensures prefix_len { IsPrefixLen result text.new }
     ensures text_after { take result text.new ≡ answer_line (as_answer judged) }
     ensures text_after_2 { text.new ≡ sets text.old 0 (answer_line (as_answer judged)) }
 {
     match judged {
-        Validation::Accepted(shape) => put_accepted(text, 0, shape.total as u64),
-        Validation::Refused(refusal) => {
-            put_refused(text, 0, refusal.number as u64, refusal.record as u64)
-        }
+        Ok(shape) => put_accepted(text, 0, shape.total as u64),
+        Err(refusal) => put_refused(text, 0, refusal),
     }
 }

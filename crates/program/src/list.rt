@@ -8,11 +8,11 @@ ghost use Rattle.listing.specs.Counts.{IsPrefixLen};
 ghost use Rattle.program.specs.Printed.{fields_or, is_more, last_line, page_lines};
 
 use crate::{ROOM, read_input};
-use classifier::count::{Counted, count};
-use classifier::page::{Answer, Start, page};
+use classifier::count::count;
+use classifier::page::page;
 use compose::force::Engine;
 use listing::text::{put_end, put_refusal, put_verdicts};
-use spec::validate::{Validation, validate};
+use spec::validate::validate;
 use std::io;
 use std::io::{Read, Write};
 
@@ -28,10 +28,7 @@ const TEXT: usize = 86016;
 pub fn fields_of(file: &[u8]) -> usize
     ensures { result ≡ fields_or file.now }
 {
-    match validate(file) {
-        Validation::Refused(r) => 0,
-        Validation::Accepted(shape) => shape.fields,
-    }
+    validate(file).map_or(0, |shape| shape.fields)
 }
 
 // The last line, at the start of the text; how many bytes.
@@ -40,17 +37,16 @@ pub fn last_text(engine: Engine, file: &[u8], scratch: &mut [i64], text: &mut [u
     ensures line { take result text.new ≡ last_line (count_answer (as_engine engine) (length scratch.old) file.now) }
 {
     match count(engine, file, scratch) {
-        Counted::Refused(r) => put_refusal(text, 0, r),
-        Counted::Counted(c) => put_end(text, 0, c),
+        Ok(c) => put_end(text, 0, c),
+        Err(r) => put_refusal(text, 0, r),
     }
 }
 
-// A page of the listing: how many bytes of text, whether verdicts follow, and the last tuple.
+// A page of the listing: how many bytes of text, and the tuple after which verdicts follow, if any do.
 #[derive(Drop)]
 struct PageText {
     len: usize,
-    more: bool,
-    last: [usize; 32],
+    next: Option<[usize; 32]>,
 }
 
 // The lines of a page, at the start of the text, which has 21 bytes for each word.
@@ -60,31 +56,20 @@ fn page_text(
     scratch: &mut [i64],
     words: &mut [i64],
     text: &mut [u8],
-    start: Start,
+    start: Option<[usize; 32]>,
 ) -> PageText
     requires { length words.old * 21 ≤ length text.old }
     ensures counted { IsPrefixLen result.len text.new }
     ensures lines { take result.len text.new ≡ page_lines (as_engine engine) file.now (as_start start) (page_answer (as_engine engine) (length scratch.old) (length words.old) file.now (as_start start)) }
-    ensures more { result.more ≡ is_more (page_answer (as_engine engine) (length scratch.old) (length words.old) file.now (as_start start)) }
-    ensures last { result.last ≡ last_by (page_answer (as_engine engine) (length scratch.old) (length words.old) file.now (as_start start)) }
+    ensures next { as_next result.next ≡ next_of (page_answer (as_engine engine) (length scratch.old) (length words.old) file.now (as_start start)) }
 {
-    let p = page(engine, file, scratch, words, start);
-    let last = p.last;
-    let answer = p.answer;
-    match answer {
-        Answer::Refused(r) => PageText {
-            len: 0,
-            more: false,
-            last,
-        },
-        Answer::Written { count, done } => {
-            let len = put_verdicts(text, &words[..], count, fields_of(file) + 4);
-            PageText {
-                len,
-                more: !done,
-                last,
-            }
+    match page(engine, file, scratch, words, start) {
+        Ok(page) => {
+            let len = put_verdicts(text, words, page.count, fields_of(file) + 4);
+            let next = if page.done { None } else { Some(page.last) };
+            PageText { len, next }
         }
+        Err(_) => PageText { len: 0, next: None },
     }
 }
 
@@ -97,19 +82,14 @@ fn print_verdicts<W: Write>(
 ) -> io::Result<()> {
     let mut words = [0i64; WORDS];
     let mut text = [0u8; TEXT];
-    let mut start = Start {
-        given: false,
-        tuple: [0usize; 32],
-    };
+    let mut start = None;
     for _ in 0..u64::MAX {
         let p = page_text(engine, file, scratch, &mut words, &mut text, start);
-        let len = p.len;
-        output.write_all(&text[..len])?;
-        if !p.more {
+        output.write_all(&text[..p.len])?;
+        if p.next.is_none() {
             break;
         }
-        let tuple = p.last;
-        start = Start { given: true, tuple };
+        start = p.next;
     }
     Ok(())
 }

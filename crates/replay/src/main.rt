@@ -4,7 +4,7 @@
 ghost use Rattle.std.specs.Prelude.{◌≤◌};
 ghost use Rattle.listing.specs.Counts.{IsPrefixLen};
 
-use classifier::page::{Answer, Start, page};
+use classifier::page::page;
 use compose::force::Engine;
 use listing::text::put_verdicts;
 use program::list::{fields_of, last_text};
@@ -21,10 +21,8 @@ const TEXT: usize = 86016;
 fn clear_places(words: &mut [i64], width: usize)
     requires { (4 ≤ width) × (width ≤ 36) }
 {
-    let mut at = 1;
-    while at < words.len() {
-        words[at] = 0;
-        at += width;
+    for verdict in words.chunks_exact_mut(width) {
+        verdict[1] = 0;
     }
 }
 
@@ -38,19 +36,13 @@ fn rows_text(
 ) -> usize
     ensures { IsPrefixLen result text.new }
 {
-    let start = Start {
-        given: false,
-        tuple: [0usize; 32],
-    };
-    let p = page(engine, file, scratch, words, start);
-    let answer = p.answer;
-    match answer {
-        Answer::Refused(r) => 0,
-        Answer::Written { count, done } => {
+    match page(engine, file, scratch, words, None) {
+        Ok(page) => {
             let width = fields_of(file) + 4;
             clear_places(words, width);
-            put_verdicts(text, &words[..], count, width)
+            put_verdicts(text, words, page.count, width)
         }
+        Err(_) => 0,
     }
 }
 

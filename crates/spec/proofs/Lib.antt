@@ -1,5 +1,6 @@
 pub mod Domain
 pub mod Named
+pub mod Known
 pub mod Words
 pub mod Uses
 pub mod Left

@@ -1,24 +1,16 @@
 -- `join::join::put_record` meets its contract: the record is copied, and its two numbers are moved.
+use mathlib.Core.Path.{◌∙◌, ◌≡◌, ap, ap₂}
+use Prim.Native.Nat.{◌*◌, ◌+◌, ◌-◌, ℕ}
 use native.Mathlib.Omega.{arith}
-use lib.ListN.{length-set}
-use Rattle.join.proofs.Written.{a_moved, b_moved, record_moved}
+use lib.ListN.{drop, take}
+use Rattle.spec.specs.Kind.{row_of}
+use Rattle.join.specs.Join.{move_bytes}
+use Rattle.join.proofs.Written.{record_moved}
 use Rattle.join.proofs.join.put_record.Goals as goal
 
-pub moved-requires : goal.moved-requires
-moved-requires c =
-    let e = a_moved c.args.file.now c.args.i c.row_of-row.result c.small.result c.row_of-row.ensures c.small.ensures.0 c.args.by in
-    omega (arith, e, c.requires.2.a_byte)
-
-pub moved-requires-2 : goal.moved-requires-2
-moved-requires-2 c =
-    let e = b_moved c.args.file.now c.args.i c.row_of-row.result c.small.result c.row_of-row.ensures c.small.ensures.0 c.args.by in
-    omega (arith, e, c.requires.2.b-byte)
-
-pub bounds-out-2 : goal.bounds-out-2
-bounds-out-2 c =
-    let out = c.copy_record.new.out in
-    let e = length-set out 1 c.moved.result in
-    omega (arith, e, c.copy_record.auto.out, c.requires.1)
-
 pub returns : goal.returns
-returns c = record_moved c.args.file.now c.args.i c.row_of-row.result c.small.result c.row_of-row.ensures c.small.ensures.0 c.args.by c.moved.result c.moved-2.result c.copy_record.new.out c.copy_record.ensures c.moved.ensures c.moved-2.ensures
+returns c =
+    let from = c.args.i * 32 in
+    let e : from + 32 - from ≡ 32 = omega arith in
+    record_moved _ c.row_of-row.result c.args.by _ _ _ (c.row_of-row.ensures ∙ ap₂ row_of c.from.ensures.0 c.from-2.ensures) c.copy_from_slice.ensures.after c.moved.ensures c.moved-2.ensures
+    ∙ ap (λ (n : ℕ). move_bytes c.args.by (take n (drop from c.args.file.now))) e
