@@ -1,5 +1,5 @@
 -- `spec::faults::judge_list` meets its contract, for a field and a decompose.
-use Rattle.std.proofs.Common.{rules, ◌≡◌, sym, w64, SFits, to_z-of_z}
+use Rattle.std.proofs.Common.{rules, w64, SFits, to_z-of_z}
 use Rattle.spec.proofs.Uses.{no_records}
 use Rattle.spec.proofs.faults.judge_list.Goals as goal
 

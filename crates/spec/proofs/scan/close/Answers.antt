@@ -1,5 +1,5 @@
 -- `spec::scan::close` meets its contract: the last list is judged, then the end.
-use Rattle.std.proofs.Common.{rules, ◌≡◌, ◌∙◌, ap, refl, sym, ◌+◌, ◌/◌, ◌≤◌, ℕ, Bool, length}
+use Rattle.std.proofs.Common.{rules, ◌≡◌, ◌∙◌, ap, refl, sym, ◌+◌, ◌/◌, ◌≤◌, Bool, length}
 use mathlib.Core.Bool.{cond}
 use mathlib.Core.Option.{none, some}
 use native.Mathlib.Omega.{arith}

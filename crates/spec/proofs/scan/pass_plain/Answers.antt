@@ -1,5 +1,5 @@
 -- `spec::scan::pass_plain` meets its contract: the kind and the first bytes of plain members are those of the open head's list.
-use Rattle.std.proofs.Common.{◌≡◌, ◌∙◌, ap, sym, subst, ◌+◌, ◌*◌, ◌<◌, ℕ}
+use Rattle.std.proofs.Common.{◌≡◌, ◌∙◌, ap, sym, subst, ◌+◌, ◌*◌, ◌<◌}
 use Rattle.spec.specs.Code.{list_number}
 use Rattle.spec.specs.Kind.{row_of}
 use Rattle.spec.specs.Record.{Record, record_at}

@@ -1,6 +1,6 @@
 -- `spec::scan::take_head` meets its contract: the list before is judged, then the head itself.
-use Rattle.std.proofs.Common.{◌≡◌, ◌∙◌, ap, refl, ◌+◌, ℕ}
-use mathlib.Core.Option.{Option, none, some}
+use Rattle.std.proofs.Common.{◌∙◌, ap, refl, ◌+◌, ℕ}
+use mathlib.Core.Option.{none, some}
 use native.Mathlib.Omega.{arith}
 use Rattle.std.proofs.lemmas.Result.{err_from_is_err_and}
 use Rattle.spec.specs.Code.{as_context, as_kind, as_record, as_refused}

@@ -1,10 +1,10 @@
 -- `spec::shape::constraints_of` meets its contract. The invariant: the records before i are gone through.
-use Rattle.std.proofs.Common.{rules, ◌≡◌, ◌∙◌, sym, ℕ}
+use Rattle.std.proofs.Common.{rules, ◌≡◌, ◌∙◌, sym}
 use mathlib.Core.Bool.{true≢false}
 use native.Mathlib.Omega.{arith}
 use lib.Dec.{eqb}
 use Rattle.lists.proofs.Tests.{eqb_yes, yes_eq}
-use Rattle.spec.specs.Code.{section_at, section_number}
+use Rattle.spec.specs.Code.{section_number}
 use Rattle.spec.specs.Kind.{is_constraint}
 use Rattle.spec.proofs.Heads.{Done, constraints_begin, done-count, done_stands, gone_on, other_done, section_here}
 use Rattle.spec.proofs.Sections.{constraint-section}

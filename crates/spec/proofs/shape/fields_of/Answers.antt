@@ -5,7 +5,7 @@ use native.Mathlib.Nat.{one-mul}
 use native.Mathlib.Omega.{arith}
 use lib.Dec.{eqb}
 use Rattle.lists.proofs.Tests.{eqb_yes, yes_eq}
-use Rattle.spec.specs.Code.{capped, domain_length, section_at, section_number}
+use Rattle.spec.specs.Code.{capped, domain_length, section_number}
 use Rattle.spec.specs.Kind.{field, is_field, section_of}
 use Rattle.spec.specs.Record.{Record, record_at}
 use Rattle.spec.proofs.Fields.{length_records}
