@@ -17,7 +17,7 @@ use borrow.Author.Rules.{sfits_of}
 use Rattle.lists.specs.Integers.{elem_z}
 use Rattle.lists.proofs.Signed.{apart_bound, lt_nle, natural_apart, neg_abs, neg_mag, neg_mul, nlt_le, quot_fits, rem_none}
 use Rattle.lists.proofs.Tests.{and-false, yes_le, yes_lt}
-use Rattle.spec.specs.Code.{length_by, ps_of}
+use Rattle.spec.specs.Code.{ps_of}
 use Rattle.spec.specs.Domain.{allows, first_multiple, how_many, on_step, step_of}
 use Rattle.spec.specs.Record.{Record, field_by}
 use Rattle.spec.specs.Refusal.{negative, on_scale}

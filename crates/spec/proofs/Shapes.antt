@@ -4,9 +4,9 @@ use mathlib.Core.List.{List, [], ◌++◌, ◌∷◌}
 use mathlib.Core.Option.{none}
 use mathlib.Core.Path.{◌∙◌, ◌≡◌, ap, ap₂, refl, subst, sym}
 use Prim.Native.Nat.{◌*◌, ◌+◌, ◌/◌, ◌<◌, ◌≤◌, suc, zero, ℕ}
-use native.Mathlib.Nat.{le-div_iff_mul-le, mul_assoc, mul_comm, mul-one, mul-zero}
+use native.Mathlib.Nat.{mul_assoc, mul-one, mul-zero}
 use native.Mathlib.Omega.{arith}
-use lib.Dec.{eqb, leb, ltb}
+use lib.Dec.{eqb, leb}
 use lib.IntN.{nat_abs, pos}
 use lib.ListN.{drop, length, length-map}
 use Rattle.lists.specs.Integers.{eq_z}
@@ -14,7 +14,7 @@ use Rattle.lists.specs.Lists.{concat_map, product}
 use Rattle.lists.proofs.All.{All, All_at, []ᴬ, ◌∷ᴬ◌}
 use Rattle.lists.proofs.Integers.{eq_z_eq}
 use Rattle.lists.proofs.Range.{in_range}
-use Rattle.lists.proofs.Tests.{eqb_no, leb_no, leb_yes, no_ge, no_gt, or_split, yes_le, yes_lt}
+use Rattle.lists.proofs.Tests.{eqb_no, leb_no, leb_yes, no_gt, or_split, yes_le}
 use Rattle.spec.specs.Code.{InScale, capped, domain_length, length_by, lengths}
 use Rattle.spec.specs.Domain.{domain, step_of, total, zero_without}
 use Rattle.spec.specs.Kind.{Kind, constraint, field, field_row, is_field, is_member, kind_of, member, projector, unknown}

@@ -1,7 +1,7 @@
 -- Judging record by record, where the records lie in a file: what one turn leaves.
 use mathlib.Core.Bool.{cond, false, true, true≢false}
 use mathlib.Core.List.{List, [], ◌++◌, ◌∷◌}
-use mathlib.Core.Option.{Option, none}
+use mathlib.Core.Option.{Option, none, some}
 use mathlib.Core.Path.{◌∙◌, ◌≡◌, ap, ap₂, refl, sym}
 use Prim.Native.Nat.{◌+◌, ◌-◌, ◌/◌, ◌<◌, ◌≤◌, suc, zero, ℕ}
 use native.Mathlib.Numerals.{add-one}
@@ -10,12 +10,15 @@ use lib.Dec.{eqb}
 use lib.ListN.{drop, drop_of_length-le, length, take}
 use lib.Seq.{drop-drop}
 use Rattle.lists.specs.Lists.{is_empty}
-use Rattle.spec.specs.Code.{as_context, left, left_at, section_number}
-use Rattle.spec.specs.Kind.{is_member}
+use Rattle.spec.specs.Code.{as_context, fault_number, left, left_at, refusal, section_number}
+use Rattle.spec.specs.Kind.{Kind, is_member}
 use Rattle.spec.specs.Record.{Record, record_at, records_of}
-use Rattle.spec.specs.Refusal.{Context, Refused, ◌▷◌, after_head, belongs, context, first_true, head_tests, list_fault, member_tests, misfiled_number, records_fault, refuse}
+use Rattle.spec.specs.Refusal.{Context, Refused, ◌▷◌, after_head, belongs, context, first_true, head_tests, list_fault, member_tests, misfiled_number, overfull, records_fault, refuse}
 use Rattle.spec.proofs.Fields.{length_records, records_from}
 use Rattle.spec.proofs.Left.{first_head, first_member, first_none, left_end, left_head, left-member, left_stray}
+use Rattle.spec.proofs.Refusals.{first_true-none, refuse-zero}
+use Rattle.spec.specs.declared.refusal.Fault.{Fault}
+use Rattle.spec.specs.declared.refusal.Fault.TheVariants as faults
 use Rattle.spec.specs.declared.scan.State.{State}
 
 drop_front : {A : Type 0} (n : ℕ) (l : List A) (x : A) (rest : List A) → drop n l ≡ x ∷ rest → take n l ++ (x ∷ []) ≡ take (suc n) l
@@ -95,3 +98,29 @@ module _ (file : List ℕ) (m : Record) (is_m : m ≡ record_at file 0) (inside 
   pub at_first_head : (own : Option Refused) → own ≡ refuse (first_true 2 (head_tests m.kind (context 0 0 0) m)) 1 → is_member m.kind ≡ false
       → records_fault (records_of file) ≡ own ▷ left (after_head m.kind (context 0 0 0)) m 1 [] (later file 0) 2
   at_first_head own o e = rw o (ap records_fault first ∙ first_head m (later file 0) e)
+
+-- A head without a fault finds room.
+pub has_room : (k : Kind) (c : Context) (h : Record) (i : ℕ) → none ≡ refuse (first_true 2 (head_tests k c h)) i → overfull k c ≡ false
+has_room k c h i e = (first_true-none 1 (head_tests k c h) (refuse-zero _ i (sym e))).1.1.1.0
+
+-- A number that is a fault's is refused with that fault.
+pub fault_refused : (f : Fault) (n i : ℕ) → fault_number f ≡ n → refuse n i ≡ some (refusal f i)
+fault_refused f n i e = ap (λ (k : ℕ). refuse k i) (sym e) ∙ go f
+  where
+    go : (f : Fault) → refuse (fault_number f) i ≡ some (refusal f i)
+    go faults.WrongLength = refl
+    go faults.UnknownKind = refl
+    go faults.StrayByte = refl
+    go faults.OutOfOrder = refl
+    go faults.TooMany = refl
+    go faults.NoSuchField = refl
+    go faults.OffScale = refl
+    go faults.EmptyDomain = refl
+    go faults.BadPacking = refl
+    go faults.TooLarge = refl
+    go faults.ScratchShort = refl
+    go faults.CyclicMaps = refl
+    go faults.ChildlessKey = refl
+    go faults.OutputShort = refl
+    go faults.NotEmitted = refl
+    go faults.NotASum = refl

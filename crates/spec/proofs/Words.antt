@@ -1,6 +1,6 @@
 -- Laws of numbers read from bytes.
 use mathlib.Core.List.{List}
-use mathlib.Core.Path.{◌≡◌, refl}
+use mathlib.Core.Path.{◌≡◌}
 use Prim.Native.Nat.{◌*◌, ◌+◌, ◌<◌, ◌≤◌, suc, ℕ}
 use native.Mathlib.Nat.{add-suc}
 use native.Mathlib.Numerals.{add-one}

@@ -99,8 +99,17 @@ pub(crate) fn judge_list(h: Record, members: &[u8]) -> Result<(), Fault>
 {
     let is_empty = members.len() < 32;
     match h.kind {
-        Kind::Field if h.b == 2 && is_empty => Err(Fault::EmptyDomain),
-        Kind::Decompose if is_empty || bad_offset(members, h.q) => Err(Fault::BadPacking),
-        _ => Ok(()),
+        Kind::Field => {
+            if (h.b == 2) & is_empty {
+                return Err(Fault::EmptyDomain);
+            }
+        }
+        Kind::Decompose => {
+            if is_empty | bad_offset(members, h.q) {
+                return Err(Fault::BadPacking);
+            }
+        }
+        _ => {}
     }
+    Ok(())
 }

@@ -191,123 +191,54 @@ pub struct Row {
     pub r: Use,
 }
 
-// A record of no list that uses nothing.
-const NOTHING: Row = Row {
-    list: List::Nothing,
-    a: Use::Unused,
-    b: Use::Unused,
-    p: Use::Unused,
-    q: Use::Unused,
-    r: Use::Unused,
-};
+impl Row {
+    fn new(list: List, a: Use, b: Use, p: Use, q: Use, r: Use) -> Row
+        ensures { result ≡ record { list = list; a = a; b = b; p = p; q = q; r = r } }
+    {
+        Row {
+            list,
+            a,
+            b,
+            p,
+            q,
+            r,
+        }
+    }
+}
 
 // What a record of the kind, and of the form where it is a field, uses.
 pub fn row_of(kind: Kind, form: usize) -> Row
     ensures { as_row result ≡ row_of (as_kind kind) form }
 {
+    use List::{Assigns, Axes, Disables, Entries, Items, Nothing, Values};
+    use Use::{Names, Natural, Number, Own, Unused};
     match kind {
         Kind::Field => field_row(form),
-        Kind::Value => Row {
-            list: List::Values,
-            a: Use::Own,
-            p: Use::Number,
-            ..NOTHING
-        },
-        Kind::Item => Row {
-            list: List::Items,
-            p: Use::Number,
-            ..NOTHING
-        },
-        Kind::Pair => Row {
-            list: List::Entries,
-            p: Use::Number,
-            q: Use::Number,
-            ..NOTHING
-        },
-        Kind::Key => Row {
-            list: List::Entries,
-            p: Use::Number,
-            ..NOTHING
-        },
-        Kind::Disable => Row {
-            list: List::Disables,
-            a: Use::Names,
-            ..NOTHING
-        },
-        Kind::Assign => Row {
-            list: List::Assigns,
-            a: Use::Names,
-            p: Use::Number,
-            ..NOTHING
-        },
-        Kind::Axis => Row {
-            list: List::Axes,
-            a: Use::Number,
-            b: Use::Number,
-            p: Use::Number,
-            ..NOTHING
-        },
-        Kind::Range => Row {
-            a: Use::Names,
-            p: Use::Number,
-            q: Use::Number,
-            ..NOTHING
-        },
-        Kind::Even => Row {
-            a: Use::Names,
-            ..NOTHING
-        },
-        Kind::Eq | Kind::Neq => Row {
-            a: Use::Names,
-            b: Use::Names,
-            ..NOTHING
-        },
-        Kind::Lt | Kind::Gt | Kind::Le | Kind::Ge => Row {
-            a: Use::Names,
-            p: Use::Number,
-            ..NOTHING
-        },
-        Kind::Oneof => Row {
-            list: List::Items,
-            a: Use::Names,
-            ..NOTHING
-        },
-        Kind::Cross => Row {
-            list: List::Entries,
-            a: Use::Names,
-            b: Use::Names,
-            ..NOTHING
-        },
-        Kind::EnableMask => Row {
-            list: List::Disables,
-            a: Use::Names,
-            p: Use::Number,
-            ..NOTHING
-        },
-        Kind::Bitmask => Row {
-            a: Use::Names,
-            p: Use::Natural,
-            q: Use::Number,
-            ..NOTHING
-        },
-        Kind::EnableSet => Row {
-            list: List::Assigns,
-            a: Use::Names,
-            p: Use::Number,
-            ..NOTHING
-        },
-        Kind::Sum | Kind::Unknown(_) => NOTHING,
-        Kind::Identity | Kind::Parity => Row {
-            a: Use::Names,
-            ..NOTHING
-        },
-        Kind::Decompose => Row {
-            list: List::Axes,
-            a: Use::Names,
-            p: Use::Number,
-            q: Use::Number,
-            ..NOTHING
-        },
+        Kind::Value => Row::new(Values, Own, Unused, Number, Unused, Unused),
+        Kind::Item => Row::new(Items, Unused, Unused, Number, Unused, Unused),
+        Kind::Pair => Row::new(Entries, Unused, Unused, Number, Number, Unused),
+        Kind::Key => Row::new(Entries, Unused, Unused, Number, Unused, Unused),
+        Kind::Disable => Row::new(Disables, Names, Unused, Unused, Unused, Unused),
+        Kind::Assign => Row::new(Assigns, Names, Unused, Number, Unused, Unused),
+        Kind::Axis => Row::new(Axes, Number, Number, Number, Unused, Unused),
+        Kind::Range => Row::new(Nothing, Names, Unused, Number, Number, Unused),
+        Kind::Even => Row::new(Nothing, Names, Unused, Unused, Unused, Unused),
+        Kind::Eq => Row::new(Nothing, Names, Names, Unused, Unused, Unused),
+        Kind::Neq => Row::new(Nothing, Names, Names, Unused, Unused, Unused),
+        Kind::Lt => Row::new(Nothing, Names, Unused, Number, Unused, Unused),
+        Kind::Gt => Row::new(Nothing, Names, Unused, Number, Unused, Unused),
+        Kind::Le => Row::new(Nothing, Names, Unused, Number, Unused, Unused),
+        Kind::Ge => Row::new(Nothing, Names, Unused, Number, Unused, Unused),
+        Kind::Oneof => Row::new(Items, Names, Unused, Unused, Unused, Unused),
+        Kind::Cross => Row::new(Entries, Names, Names, Unused, Unused, Unused),
+        Kind::EnableMask => Row::new(Disables, Names, Unused, Number, Unused, Unused),
+        Kind::Bitmask => Row::new(Nothing, Names, Unused, Natural, Number, Unused),
+        Kind::EnableSet => Row::new(Assigns, Names, Unused, Number, Unused, Unused),
+        Kind::Sum => Row::new(Nothing, Unused, Unused, Unused, Unused, Unused),
+        Kind::Identity => Row::new(Nothing, Names, Unused, Unused, Unused, Unused),
+        Kind::Parity => Row::new(Nothing, Names, Unused, Unused, Unused, Unused),
+        Kind::Decompose => Row::new(Axes, Names, Unused, Number, Number, Unused),
+        Kind::Unknown(_) => Row::new(Nothing, Unused, Unused, Unused, Unused, Unused),
     }
 }
 
@@ -315,26 +246,11 @@ pub fn row_of(kind: Kind, form: usize) -> Row
 fn field_row(form: usize) -> Row
     ensures { as_row result ≡ field_row form }
 {
+    use List::{Nothing, Values};
+    use Use::{Natural, Number, Own, Unused};
     match form {
-        0 => Row {
-            a: Use::Own,
-            b: Use::Number,
-            r: Use::Natural,
-            ..NOTHING
-        },
-        1 => Row {
-            a: Use::Own,
-            b: Use::Number,
-            p: Use::Number,
-            q: Use::Number,
-            r: Use::Natural,
-            ..NOTHING
-        },
-        _ => Row {
-            list: List::Values,
-            a: Use::Own,
-            b: Use::Number,
-            ..NOTHING
-        },
+        0 => Row::new(Nothing, Own, Number, Unused, Unused, Natural),
+        1 => Row::new(Nothing, Own, Number, Number, Number, Natural),
+        _ => Row::new(Values, Own, Number, Unused, Unused, Unused),
     }
 }

@@ -79,10 +79,11 @@ fn close(file: &[u8], state: State) -> Result<(), Refusal>
 {
     let n = file.len() / 32;
     close_list(file, state.head, n)?;
-    if state.context.section != Section::Projector {
-        return Err(Fault::OutOfOrder.at(n + 1));
+    if state.context.section == Section::Projector {
+        Ok(())
+    } else {
+        Err(Fault::OutOfOrder.at(n + 1))
     }
-    Ok(())
 }
 
 // Passes plain members from record i on: what is left to judge is the same.

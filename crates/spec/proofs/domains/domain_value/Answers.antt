@@ -1,5 +1,5 @@
 -- `spec::domains::domain_value` meets its contract: a listed value, or a multiple.
-use Rattle.std.proofs.Common.{rules, ◌≡◌, ◌∙◌, ap, sym, w64, SFits, to_z-of_z, length, get_or, ◌/◌, ◌<◌, pos, nat_abs}
+use Rattle.std.proofs.Common.{rules, ◌∙◌, ap, sym, w64, SFits, to_z-of_z, length, get_or, ◌/◌, ◌<◌, pos, nat_abs}
 use native.Mathlib.Omega.{arith}
 use lib.ListN.{length-map}
 use Rattle.spec.specs.Code.{as_record, high_of, low_of}

@@ -5,7 +5,7 @@ use Rattle.spec.specs.Code.{left_at}
 use Rattle.spec.proofs.scan.scan_from.Given as goal
 
 abbrev pub invariant-loop-i : goal.invariant-loop-i
-invariant-loop-i l = (l.state.head < l.i) × (l.i ≤ l.n) × (left_at l.file l.first 1 ≡ left_at l.file l.state l.i)
+invariant-loop-i l = (l.state.head < l.i) × (l.i ≤ l.n) × (left_at l.file l.fn.first 1 ≡ left_at l.file l.state l.i)
 
 abbrev pub decreases-loop-i : goal.decreases-loop-i
 decreases-loop-i l = l.n - l.i

@@ -1,5 +1,4 @@
-use Rattle.std.proofs.Common.{rules, ◌≡◌, pos, to_z-of_z, w64, SFits, sym}
-use Rattle.lists.specs.Integers.{eq_z}
+use Rattle.std.proofs.Common.{rules, ◌≡◌, to_z-of_z, w64, SFits, sym}
 use Rattle.spec.specs.Code.{as_use}
 use Rattle.spec.specs.Kind.{is_unused}
 use Rattle.spec.proofs.judge.Candidate.has_stray_byte.Goals as goal

@@ -1,7 +1,6 @@
 use Rattle.std.proofs.Common.{rules, ◌≡◌, to_z-of_z, w64, SFits, sym}
 use Rattle.spec.specs.Code.{as_use}
 use Rattle.spec.specs.Kind.{is_natural}
-use Rattle.spec.specs.Refusal.{negative}
 use Rattle.spec.proofs.Uses.{negative_lt}
 use Rattle.spec.proofs.judge.Candidate.is_off_scale.Goals as goal
 

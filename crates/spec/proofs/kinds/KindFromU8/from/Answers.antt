@@ -1,9 +1,8 @@
 -- `Kind::from` keeps its promise: each number is computed through the table of kinds.
 use mathlib.Core.Path.{refl}
-use Prim.Native.Nat.{ℕ}
 use native.Mathlib.Omega.{arith}
 use Rattle.lists.proofs.Range.{in_range}
-use Rattle.spec.specs.Kind.{Kind, kind_of, unknown}
+use Rattle.spec.specs.Kind.{kind_of, unknown}
 use Rattle.spec.proofs.kinds.KindFromU8.from.Goals as goal
 
 pub returns-in-0 : goal.returns-in-0

@@ -1,0 +1,32 @@
+-- `spec::scan::close` meets its contract: the last list is judged, then the end.
+use Rattle.std.proofs.Common.{rules, ◌≡◌, ◌∙◌, ap, refl, sym, ◌+◌, ◌/◌, ◌≤◌, Bool, length}
+use mathlib.Core.Bool.{cond}
+use mathlib.Core.Option.{none, some}
+use native.Mathlib.Omega.{arith}
+use lib.Dec.{eqb}
+use Rattle.std.proofs.lemmas.Result.{err_from_is_err_and}
+use Rattle.spec.specs.Code.{as_refused, section_number}
+use Rattle.spec.specs.Refusal.{refuse}
+use Rattle.spec.proofs.Turns.{at_end}
+use Rattle.spec.proofs.scan.close.Goals as goal
+
+pub returns-in_err-close_list : goal.returns-in_err-close_list
+returns-in_err-close_list c =
+    let n = length c.args.file.now / 32 in
+    let end : n ≤ n = omega arith in
+    let p = err_from_is_err_and c.from_residual.result c.from_residual.ensures.1 in
+    rw (p.1, p.2) (sym (at_end c.args.file.now c.args.state _ _ n refl refl (some (as_refused c.in_err-close_list.field-0.0)) c.in_err-close_list.ensures end))
+
+pub returns-then-eq : goal.returns-then-eq
+returns-then-eq c =
+    let n = length c.args.file.now / 32 in
+    let end : n ≤ n = omega arith in
+    let last : c.eq.result ≡ eqb (section_number c.args.state.context.section) 2 = search rules in
+    sym (at_end c.args.file.now c.args.state _ _ n refl refl none c.in_ok-close_list.ensures end ∙ ap (λ (b : Bool). cond b none (refuse 4 (n + 1))) (sym last ∙ c.if-eq.true))
+
+pub returns-else-eq : goal.returns-else-eq
+returns-else-eq c =
+    let n = length c.args.file.now / 32 in
+    let end : n ≤ n = omega arith in
+    let last : c.eq.result ≡ eqb (section_number c.args.state.context.section) 2 = search rules in
+    rw c.at.ensures (sym (at_end c.args.file.now c.args.state _ _ n refl refl none c.in_ok-close_list.ensures end ∙ ap (λ (b : Bool). cond b none (refuse 4 (n + 1))) (sym last ∙ c.if-eq.false)))
