@@ -28,6 +28,7 @@ pub mod Stepping
 pub mod Prepared
 pub mod Rowed
 pub mod Tabled
+pub mod Paired
 pub mod Keyed
 pub mod Usual
 pub mod Ascending

@@ -45,10 +45,15 @@ fn child_of(run: &[u8], i: usize, v: Value) -> Option<Value>
     requires { i < length run.now / 32 }
     ensures { MatchOption result ((w : ℤ) → pairs_at v.0 w (record_at run.now i) ≡ false) (λ q. (w : ℤ) → pairs_at v.0 w (record_at run.now i) ≡ eq_z w q.0) }
 {
-    if p_at(run, i) == v.0 && kind_at(run, i) == Kind::Pair {
-        Some(Value(q_at(run, i)))
-    } else {
-        None
+    match kind_at(run, i) {
+        Kind::Pair => {
+            if p_at(run, i) == v.0 {
+                Some(Value(q_at(run, i)))
+            } else {
+                None
+            }
+        }
+        _ => None,
     }
 }
 
@@ -121,11 +126,17 @@ pub(crate) fn is_pair_at(members: IndexedRun, k: usize, v: Value, w: Value) -> b
         return false;
     }
     let r = members.places[k];
-    if p_at(members.run, r) != v.0 || q_at(members.run, r) != w.0 {
+    if p_at(members.run, r) != v.0 {
         return false;
     }
-    // A key without a child has 0 there.
-    kind_at(members.run, r) == Kind::Pair || has_pair(members.run, v, w)
+    if q_at(members.run, r) != w.0 {
+        return false;
+    }
+    match kind_at(members.run, r) {
+        Kind::Pair => true,
+        // A key without a child has 0 there.
+        _ => has_pair(members.run, v, w),
+    }
 }
 
 // The key at place k, unless it is that of the place before it.

@@ -1,8 +1,7 @@
--- `compose::childless::has_child` meets its contract. The invariant: no child value at a place before k is in the list.
-use Rattle.std.proofs.Common.{◌≡◌, false, map}
-use Rattle.lists.specs.Lists.{any}
-use Rattle.compose.specs.Code.{between, pairs_at}
+-- `compose::childless::has_child` meets its contract. The invariant: some child value is in the list exactly where one of the places from k on gives it.
+use Rattle.std.proofs.Common.{◌≡◌}
+use Rattle.compose.proofs.Paired.{among}
 use Rattle.compose.proofs.childless.has_child.Given as goal
 
 abbrev pub invariant-loop-k : goal.invariant-loop-k
-invariant-loop-k g l = any (λ w. any (pairs_at l.v.0 w) (map (g.M.Members.member l.members) (between l.initial.k l.k))) l.children.list ≡ false
+invariant-loop-k g l = among (g.M.Members.member l.members) l.v.0 l.children.list.now l.k l.k-end ≡ among (g.M.Members.member l.members) l.v.0 l.children.list.now l.initial.k l.k-end

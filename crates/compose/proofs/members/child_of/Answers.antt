@@ -1,5 +1,11 @@
-use Rattle.compose.proofs.members.child_of.Goals.{else-p_at-v-via-then-p_at-v+else-eq, else-p_at-v-via-else-p_at-v}
+use Rattle.std.proofs.Common.{◌∙◌, ◌≡◌, sym, rules}
+use Rattle.lists.specs.Integers.{eq_z}
+use Rattle.spec.specs.Record.{record_at}
+use Rattle.spec.proofs.Fields.{kind_of_lem}
+use Rattle.registry.proofs.Cross.{no_pair, pairs_entry}
 use Rattle.compose.proofs.members.child_of.Goals as goal
 
-pub returns-else-p_at-v : goal.returns-else-p_at-v
-returns-else-p_at-v c w = elim c.else-p_at-v.branch [ else-p_at-v-via-then-p_at-v+else-eq w ↦ (let a = w.eq.ensures in let b = w.if-eq in let d = w.kind_at.ensures in ?) | else-p_at-v-via-else-p_at-v w ↦ (let a = w.if-p_at-v in ?) ]
+pub returns-in_default : goal.returns-in_default
+returns-in_default c w =
+    let m = record_at c.args.run.now c.args.i in
+    pairs_entry c.args.v.0 w m ∙ sym (no_pair c.kind_at.result m c.kind_at.ensures.kind (kind_of_lem c.args.run.now c.args.i) c.in_default.not-Pair c.args.v.0 w)
