@@ -1,7 +1,7 @@
 -- Pairs among the records that stand at places.
-use Rattle.std.proofs.Common.{◌∙◌, ◌≡◌, ◌||◌, ◌+◌, ◌-◌, ◌<◌, ◌≤◌, ap, ap₂, refl, sym, arith, false, Bool, ℕ, suc, zero, List, [], ◌∷◌, ◌++◌, ℤ, map}
+use Rattle.std.proofs.Common.{◌∙◌, ◌≡◌, ◌||◌, ◌+◌, ◌-◌, ◌<◌, ◌≤◌, ap, ap₂, refl, sym, arith, false, Bool, ℕ, suc, zero, List, [], ◌∷◌, ◌++◌, ℤ, length, map, replicate}
 use Rattle.lists.specs.Integers.{elem_z, eq_z}
-use Rattle.lists.specs.Lists.{any, span}
+use Rattle.lists.specs.Lists.{any, span, upto}
 use Rattle.lists.proofs.Lists.{any_ext, map_append}
 use Rattle.lists.proofs.All.{All_of}
 use Rattle.spec.specs.Record.{Record}
@@ -30,6 +30,9 @@ between_next k high h =
 
 between_none : (low high : ℕ) → high ≤ low → between low high ≡ []
 between_none low high h = let e : high - low ≡ 0 = omega arith in ap (span low) e
+
+pub between_all : (n : ℕ) → between 0 n ≡ upto n
+between_all n = let e : n - 0 ≡ n = omega arith in ap (span 0) e
 
 any_false : (list : List ℤ) → any (λ (w : ℤ). false) list ≡ false
 any_false [] = refl
@@ -62,6 +65,9 @@ module _ (f : ℕ → Record) (v : ℤ) (list : List ℤ) where
   -- ---- the cells that are marked for the places from low to before k
   abbrev pub cells_to : (low k : ℕ) → List ℕ
   cells_to low k = paired_at v (map f (between low k)) list
+
+  pub cells_none : (low : ℕ) → replicate (length list) 0 ≡ cells_to low low
+  cells_none low = row-none list ∙ ap (λ (ns : List ℕ). paired_at v (map f ns) list) (sym (between_none low low (omega arith)))
 
   module _ (low k : ℕ) (h : low ≤ k) where
     cells_next : paired_at v (map f (between low k) ++ (f k ∷ [])) list ≡ cells_to low (k + 1)

@@ -1,11 +1,22 @@
 -- `Run::places_of` meets its contract.
-use Rattle.std.proofs.Common.{◌∙◌, sym, arith}
-use Rattle.spec.specs.Record.{records_of}
-use Rattle.registry.proofs.Cross.{any_key}
+use Rattle.std.proofs.Common.{◌∙◌, ◌≡◌, ◌/◌, ap, sym, arith, List, length, map, ℕ}
+use Rattle.lists.specs.Lists.{any, upto}
+use Rattle.spec.specs.Record.{Record, record_at, records_of}
+use Rattle.registry.proofs.Cross.{any_key, any_pair}
+use Rattle.registry.proofs.Ordered.{records_upto}
+use Rattle.compose.specs.Code.{between, pairs_at}
+use Rattle.compose.proofs.Paired.{between_all}
 use Rattle.compose.proofs.members.RunMembers.places_of.Goals as goal
 
 pub returns-then-has_p : goal.returns-then-has_p
-returns-then-has_p c = (any_key c.args.v.0 (records_of c.args.self.0.now) ∙ sym c.has_p.ensures ∙ c.if-has_p.true, omega arith, omega arith, ?)
+returns-then-has_p c =
+    let run = c.args.self.0.now in
+    let v = c.args.v.0 in (
+      any_key v (records_of run) ∙ sym c.has_p.ensures ∙ c.if-has_p.true,
+      omega arith,
+      omega arith,
+      λ w. any_pair v w (records_of run) ∙ ap (any (pairs_at v w)) (sym (ap (map (record_at run)) (between_all (length run / 32)) ∙ records_upto run)),
+    )
 
 pub returns-else-has_p : goal.returns-else-has_p
 returns-else-has_p c = any_key c.args.v.0 (records_of c.args.self.0.now) ∙ sym c.has_p.ensures ∙ c.if-has_p.false
