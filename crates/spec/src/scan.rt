@@ -120,7 +120,8 @@ fn scan_from(file: &[u8], first: State) -> Result<(), Refusal>
 pub(crate) fn scan(file: &[u8]) -> Result<(), Refusal>
     ensures { as_fault result ≡ records_fault (records_of file.now) }
 {
-    if file.len() < 32 {
+    let is_empty = file.len() < 32;
+    if is_empty {
         return Err(Fault::OutOfOrder.at(1));
     }
     let m = record_at(file, 0);

@@ -28,7 +28,8 @@ pub fn validate(file: &[u8]) -> Result<Shape, Refusal>
     scan(file)?;
     let fields = fields_of(file);
     let total = fields.total();
-    if LIMIT < total {
+    let is_too_large = LIMIT < total;
+    if is_too_large {
         return Err(Fault::TooLarge.at(0));
     }
     let constraints = constraints_of(file, fields.end);

@@ -8,8 +8,8 @@ use Rattle.spec.specs.Refusal.{Context, after_head, first_true, head_tests, refu
 use Rattle.spec.proofs.Turns.{at_first_head, at_first_member, at_none, at_opened, fault_refused}
 use Rattle.spec.proofs.scan.scan.Goals as goal
 
-pub returns-then-file-lt32 : goal.returns-then-file-lt32
-returns-then-file-lt32 c = ap some c.at.ensures ∙ sym (at_none c.args.file.now c.if-file-lt32.true)
+pub returns-then-is_empty : goal.returns-then-is_empty
+returns-then-is_empty c = ap some c.at.ensures ∙ sym (at_none c.args.file.now c.if-is_empty.true)
 
 pub returns-then-is_member : goal.returns-then-is_member
 returns-then-is_member c =

@@ -26,17 +26,17 @@ total_is c =
     let f = c.fields_of-fields.ensures in
     c.total-total.ensures ∙ ap₂ (λ (n : ℕ) (k : ℕ). cond (eqb n 0) 0 k) f.count f.product ∙ total-capped (decoded c.args.file.now)
 
-pub returns-then-total-gt-LIMIT : goal.returns-then-total-gt-LIMIT
-returns-then-total-gt-LIMIT c =
+pub returns-then-is_too_large : goal.returns-then-is_too_large
+returns-then-is_too_large c =
     let file = c.args.file.now in
-    ap refused c.at-then-total-gt-LIMIT.ensures
-    ∙ answer_many file (shape_of file) c.if-len.false (sym c.in_ok-scan.ensures) (many (decoded file) (rw (sym (total_is (goal.at.returns-then-total-gt-LIMIT c).After-total-total)) c.if-total-gt-LIMIT.true))
+    ap refused c.at-then-is_too_large.ensures
+    ∙ answer_many file (shape_of file) c.if-len.false (sym c.in_ok-scan.ensures) (many (decoded file) (rw (sym (total_is (goal.at.returns-then-is_too_large c).After-total-total)) c.if-is_too_large.true))
 
 pub returns : goal.returns
 returns c =
     let file = c.args.file.now in
     let t = total_is (goal.at.returns c).After-total-total in
-    let f = few (decoded file) (rw (sym t) c.if-total-gt-LIMIT.false) in
+    let f = few (decoded file) (rw (sym t) c.if-is_too_large.false) in
     let fields = c.fields_of-fields.ensures in
     let constraints = c.constraints_of-constraints.ensures in
     ap accepted (shape_is file fields.count constraints.count fields.end constraints.end (t ∙ f.1))
