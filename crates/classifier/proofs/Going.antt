@@ -14,6 +14,7 @@ use Rattle.spec.specs.Record.{decoded}
 use Rattle.spec.specs.Spec.{Spec}
 use Rattle.spec.proofs.Named.{width}
 use Rattle.compose.specs.Code.{Stands, plan_in}
+use Rattle.compose.specs.Plans.{next_tuple}
 use Rattle.compose.specs.Tuples.{Engine, zeros, padded}
 use Rattle.compose.specs.Walk.{Placed, Plan, first_tuple, has_tuple_after, index_holds, is_tuple, length_at, plan_of, tuple_after}
 use Rattle.compose.proofs.Emitted.{held}
@@ -21,7 +22,7 @@ use Rattle.compose.proofs.Found.{first_held, next_held, tuple_held, tuple_placed
 use Rattle.compose.proofs.Rows.{length-values}
 use Rattle.compose.proofs.Stepping.{padded_back}
 use Rattle.compose.proofs.Walk.{Ready, from_tuple, held_holds, plan_width, walk_on, walk_start, walk_step}
-use Rattle.classifier.specs.Code.{Walking, is_start, step_from}
+use Rattle.classifier.specs.Code.{Walking, first_from, is_start}
 use Rattle.classifier.specs.Page.{Start, after_tuple, beginning, due_tuples}
 use Rattle.classifier.proofs.Paging.{next_left}
 use Rattle.classifier.proofs.Starts.{Wide, due-after, due_first}
@@ -38,11 +39,11 @@ pub record Begun (p : Plan) (n : ℕ) (tuple : List ℕ) : Type 0 where
   pub holding : Holding p n (take n tuple)
 
 -- The same with its row, and what is left of the tuples that are due.
-pub record Going (p : Plan) (n : ℕ) (ts : List (List ℕ)) (count : ℕ) (more : Bool) (tuple : List ℕ) (raw : List ℤ) : Type 0 where
+pub record Going (p : Plan) (n : ℕ) (ts : List (List ℕ)) (count : ℕ) (tuple : List ℕ) (raw : List ℤ) : Type 0 where
   pub begun : Begun p n tuple
   pub wide : length raw ≡ 32
   pub stands : Stands p (take n tuple) (take n raw)
-  pub left : drop count ts ≡ cond more (from_tuple p (take n tuple)) []
+  pub left : drop count ts ≡ from_tuple p (take n tuple)
 
 -- ---- on the engine's plan
 module _ (engine : Engine) (s : Spec) (ready : Ready engine s) (few : width s ≤ 32) where
@@ -82,43 +83,58 @@ module _ (engine : Engine) (s : Spec) (ready : Ready engine s) (few : width s �
       → tuple_after (plan_of engine s) (take (width s) t) ++ drop (width s) t ≡ padded (tuple_after (plan_of engine s) (take (width s) t))
   next_padded t b m = padded_back (width s) (tuple_after plan (take (width s) t)) (drop (width s) t) (walk_on engine s ready (take (width s) t) (begun_held t b).0 m).long b.zeros-after
 
-  -- The first tuple of a page, or the start where there is none.
-  start_begun : (start : Start) → Wide start → is_start (plan_of engine s) start ≡ true → Begun (plan_of engine s) (width s) (step_from (plan_of engine s) start).tuple
-  start_begun beginning l e = begun_first
-  start_begun (after_tuple t) l e = rw (plan_width engine s) (go (has_tuple_after plan (take (width s) t)) refl)
+  -- The first tuple of a page.
+  start_begun : (start : Start) → Wide start → is_start (plan_of engine s) start ≡ true → (u : List ℕ) → first_from (plan_of engine s) start ≡ Some u → Begun (plan_of engine s) (width s) u
+  start_begun beginning l e u f = let z : padded (first_tuple plan) ≡ u = cc in subst (Begun plan (width s)) z begun_first
+  start_begun (after_tuple t) l e u f = go (has_tuple_after plan (take (width s) t)) refl (ap (λ (n : ℕ). next_tuple plan (take n t)) (sym (plan_width engine s)) ∙ f)
     where
-      go : (b : Bool) → has_tuple_after (plan_of engine s) (take (width s) t) ≡ b → Begun (plan_of engine s) (width s) (cond b (padded (tuple_after (plan_of engine s) (take (width s) t))) t)
-      go true m = let b = begun_given t l e in subst (Begun plan (width s)) (next_padded t b m) (begun_next t b m)
-      go false m = begun_given t l e
+      go : (b : Bool) → has_tuple_after (plan_of engine s) (take (width s) t) ≡ b → cond b (Some (padded (tuple_after (plan_of engine s) (take (width s) t)))) None ≡ Some u → Begun (plan_of engine s) (width s) u
+      go true m g = let b = begun_given t l e in let z : padded (tuple_after plan (take (width s) t)) ≡ u = cc in subst (Begun plan (width s)) (next_padded t b m ∙ z) (begun_next t b m)
+      go false m g = absurd (cc)
 
-  -- What is due is what the walker goes through from there.
-  start_due : (start : Start) → Wide start → is_start (plan_of engine s) start ≡ true
-      → due_tuples engine s start ≡ cond (step_from (plan_of engine s) start).more (from_tuple (plan_of engine s) (take (width s) (step_from (plan_of engine s) start).tuple)) []
-  start_due beginning l e =
+  -- What is due is what the walker goes through from there, or nothing.
+  start_due : (start : Start) → Wide start → is_start (plan_of engine s) start ≡ true → (u : List ℕ) → first_from (plan_of engine s) start ≡ Some u → due_tuples engine s start ≡ from_tuple (plan_of engine s) (take (width s) u)
+  start_due beginning l e u f =
+      let z : padded (first_tuple plan) ≡ u = cc in
       ap (λ (o : Option (List (List ℕ))). Option.get_or o []) (due_first engine s ready few)
-      ∙ ap (from_tuple plan) (sym (take_at (first_tuple plan) (zeros (32 - length (first_tuple plan))) (width s) (walk_start engine s ready).long))
-  start_due (after_tuple t) l e = rw (plan_width engine s) (ap (λ (o : Option (List (List ℕ))). Option.get_or o []) (due-after engine s ready few t l e) ∙ go (has_tuple_after plan (take (width s) t)) refl)
+      ∙ ap (from_tuple plan) (sym (take_at (first_tuple plan) (zeros (32 - length (first_tuple plan))) (width s) (walk_start engine s ready).long) ∙ ap (take (width s)) z)
+  start_due (after_tuple t) l e u f =
+      ap (λ (o : Option (List (List ℕ))). Option.get_or o []) (due-after engine s ready few t l e)
+      ∙ go (has_tuple_after plan (take (width s) t)) refl (ap (λ (n : ℕ). next_tuple plan (take n t)) (sym (plan_width engine s)) ∙ f)
     where
-      go : (b : Bool) → has_tuple_after (plan_of engine s) (take (width s) t) ≡ b
-          → cond b (from_tuple (plan_of engine s) (tuple_after (plan_of engine s) (take (width s) t))) [] ≡ cond b (from_tuple (plan_of engine s) (take (width s) (cond b (padded (tuple_after (plan_of engine s) (take (width s) t))) t))) []
-      go true m =
+      go : (b : Bool) → has_tuple_after (plan_of engine s) (take (width s) t) ≡ b → cond b (Some (padded (tuple_after (plan_of engine s) (take (width s) t)))) None ≡ Some u
+          → cond b (from_tuple (plan_of engine s) (tuple_after (plan_of engine s) (take (width s) t))) [] ≡ from_tuple (plan_of engine s) (take (width s) u)
+      go true m g =
           let q = walk_on engine s ready (take (width s) t) (begun_held t (begun_given t l e)).0 m in
-          ap (from_tuple plan) (sym (take_at (tuple_after plan (take (width s) t)) (zeros (32 - length (tuple_after plan (take (width s) t)))) (width s) q.long))
-      go false m = refl
+          let z : padded (tuple_after plan (take (width s) t)) ≡ u = cc in
+          ap (from_tuple plan) (sym (take_at (tuple_after plan (take (width s) t)) (zeros (32 - length (tuple_after plan (take (width s) t)))) (width s) q.long) ∙ ap (take (width s)) z)
+      go false m g = absurd (cc)
+
+  start_over : (start : Start) → Wide start → is_start (plan_of engine s) start ≡ true → first_from (plan_of engine s) start ≡ None → due_tuples engine s start ≡ []
+  start_over beginning l e f = absurd (cc)
+  start_over (after_tuple t) l e f =
+      ap (λ (o : Option (List (List ℕ))). Option.get_or o []) (due-after engine s ready few t l e)
+      ∙ go (has_tuple_after plan (take (width s) t)) (ap (λ (n : ℕ). next_tuple plan (take n t)) (sym (plan_width engine s)) ∙ f)
+    where
+      go : (b : Bool) → cond b (Some (padded (tuple_after (plan_of engine s) (take (width s) t)))) None ≡ None → cond b (from_tuple (plan_of engine s) (tuple_after (plan_of engine s) (take (width s) t))) [] ≡ []
+      go true g = absurd (cc)
+      go false g = refl
 
   -- ---- a turn
-  module _ (ts : List (List ℕ)) (count : ℕ) (tuple : List ℕ) (raw : List ℤ) (g : Going (plan_of engine s) (width s) ts count true tuple raw) where
+  module _ (ts : List (List ℕ)) (count : ℕ) (tuple : List ℕ) (raw : List ℤ) (g : Going (plan_of engine s) (width s) ts count tuple raw) where
     next_due : drop count ts ≡ take (width s) tuple ∷ cond (has_tuple_after (plan_of engine s) (take (width s) tuple)) (from_tuple (plan_of engine s) (tuple_after (plan_of engine s) (take (width s) tuple))) []
     next_due = g.left ∙ walk_step engine s ready (take (width s) tuple) (begun_held tuple g.begun).0
 
-    turn : (more : Bool) (u : List ℕ) (r : List ℤ) → more ≡ has_tuple_after (plan_of engine s) (take (width s) tuple)
-        → u ≡ cond (has_tuple_after (plan_of engine s) (take (width s) tuple)) (tuple_after (plan_of engine s) (take (width s) tuple)) (take (width s) tuple) → Stands (plan_of engine s) u r
-        → Going (plan_of engine s) (width s) ts (count + 1) more (u ++ drop (width s) tuple) (r ++ drop (width s) raw)
-    turn more u r em eu st = record {
-      begun = begun_there (has_tuple_after plan (take (width s) tuple)) refl eu;
+    turn_over : has_tuple_after (plan_of engine s) (take (width s) tuple) ≡ false → drop (count + 1) ts ≡ []
+    turn_over e = next_left count ts (take (width s) tuple) _ next_due ∙ ap (λ (b : Bool). cond b (from_tuple plan (tuple_after plan (take (width s) tuple))) []) e
+
+    turn : (u : List ℕ) (r : List ℤ) → has_tuple_after (plan_of engine s) (take (width s) tuple) ≡ true → u ≡ tuple_after (plan_of engine s) (take (width s) tuple) → Stands (plan_of engine s) u r
+        → Going (plan_of engine s) (width s) ts (count + 1) (u ++ drop (width s) tuple) (r ++ drop (width s) raw)
+    turn u r m eu st = record {
+      begun = subst (λ (v : List ℕ). Begun plan (width s) (v ++ drop (width s) tuple)) (sym eu) (begun_next tuple g.begun m);
       wide = length-append r (drop (width s) raw) ∙ omega (arith, row-long, length-drop (width s) raw, g.wide);
       stands = subst (λ (v : List ℕ). Stands plan v (take (width s) (r ++ drop (width s) raw))) (sym front) (subst (Stands plan u) (sym (take_at r (drop (width s) raw) (width s) row-long)) st);
-      left = next_left count ts (take (width s) tuple) _ next_due ∙ rest (has_tuple_after plan (take (width s) tuple)) refl eu ∙ ap₂ (λ (b : Bool) (v : List ℕ). cond b (from_tuple plan v) []) (sym em) (sym front);
+      left = next_left count ts (take (width s) tuple) _ next_due ∙ ap (λ (b : Bool). cond b (from_tuple plan (tuple_after plan (take (width s) tuple))) []) m ∙ ap (from_tuple plan) (sym (front ∙ eu));
     }
       where
         long : length u ≡ width s
@@ -130,23 +146,13 @@ module _ (engine : Engine) (s : Spec) (ready : Ready engine s) (few : width s �
         front : take (width s) (u ++ drop (width s) tuple) ≡ u
         front = take_at u (drop (width s) tuple) (width s) long
 
-        begun_there : (b : Bool) → has_tuple_after (plan_of engine s) (take (width s) tuple) ≡ b → u ≡ cond b (tuple_after (plan_of engine s) (take (width s) tuple)) (take (width s) tuple)
-            → Begun (plan_of engine s) (width s) (u ++ drop (width s) tuple)
-        begun_there true m e = subst (λ (v : List ℕ). Begun plan (width s) (v ++ drop (width s) tuple)) (sym e) (begun_next tuple g.begun m)
-        begun_there false m e = subst (Begun plan (width s)) (sym (ap (λ (v : List ℕ). v ++ drop (width s) tuple) e ∙ take-append-drop (width s) tuple)) g.begun
-
-        rest : (b : Bool) → has_tuple_after (plan_of engine s) (take (width s) tuple) ≡ b → u ≡ cond b (tuple_after (plan_of engine s) (take (width s) tuple)) (take (width s) tuple)
-            → cond b (from_tuple (plan_of engine s) (tuple_after (plan_of engine s) (take (width s) tuple))) [] ≡ cond b (from_tuple (plan_of engine s) u) []
-        rest true m e = ap (from_tuple plan) (sym e)
-        rest false m e = refl
-
 -- ---- on a plan that lies in the file and the scratch
-module _ (engine : Engine) (file heads : List ℕ) (c : ℕ) (checks asked : List ℕ) (scratch : List ℤ) (lists maps order : List ℕ) (w : Walking engine file heads c checks asked scratch lists maps order) where
+module _ {engine : Engine} {file heads : List ℕ} {c : ℕ} {checks asked : List ℕ} {scratch : List ℤ} {lists maps order : List ℕ} (w : Walking engine file heads c checks asked scratch lists maps order) where
   ready : Ready engine (decoded file)
-  ready = walking_ready engine file heads c checks asked scratch lists maps order w
+  ready = walking_ready w
 
   many : length order ≡ width (decoded file)
-  many = walking_wide engine file heads c checks asked scratch lists maps order w
+  many = walking_wide w
 
   few : width (decoded file) ≤ 32
   few = omega (arith, many, w.planned.plan-in.places.few)
@@ -158,12 +164,15 @@ module _ (engine : Engine) (file heads : List ℕ) (c : ℕ) (checks asked : Lis
   there : (P : Plan → ℕ → Type 0) → P (plan_in file scratch lists maps order) (length order) → P (plan_of engine (decoded file)) (width (decoded file))
   there P x = subst (P (plan_of engine (decoded file))) many (subst (λ (p : Plan). P p (length order)) w.planned.plan-is x)
 
-  pub going_begun : (start : Start) → Wide start → is_start (plan_in file scratch lists maps order) start ≡ true → Begun (plan_in file scratch lists maps order) (length order) (step_from (plan_in file scratch lists maps order) start).tuple
-  going_begun start l = here (λ p n. is_start p start ≡ true → Begun p n (step_from p start).tuple) (start_begun engine (decoded file) ready few start l)
+  pub going_begun : (start : Start) → Wide start → is_start (plan_in file scratch lists maps order) start ≡ true → (u : List ℕ) → first_from (plan_in file scratch lists maps order) start ≡ Some u → Begun (plan_in file scratch lists maps order) (length order) u
+  going_begun start l = here (λ p n. is_start p start ≡ true → (u : List ℕ) → first_from p start ≡ Some u → Begun p n u) (start_begun engine (decoded file) ready few start l)
 
-  pub going_due : (start : Start) → Wide start → is_start (plan_in file scratch lists maps order) start ≡ true
-      → due_tuples engine (decoded file) start ≡ cond (step_from (plan_in file scratch lists maps order) start).more (from_tuple (plan_in file scratch lists maps order) (take (length order) (step_from (plan_in file scratch lists maps order) start).tuple)) []
-  going_due start l = here (λ p n. is_start p start ≡ true → due_tuples engine (decoded file) start ≡ cond (step_from p start).more (from_tuple p (take n (step_from p start).tuple)) []) (start_due engine (decoded file) ready few start l)
+  pub going_due : (start : Start) → Wide start → is_start (plan_in file scratch lists maps order) start ≡ true → (u : List ℕ) → first_from (plan_in file scratch lists maps order) start ≡ Some u
+      → due_tuples engine (decoded file) start ≡ from_tuple (plan_in file scratch lists maps order) (take (length order) u)
+  going_due start l = here (λ p n. is_start p start ≡ true → (u : List ℕ) → first_from p start ≡ Some u → due_tuples engine (decoded file) start ≡ from_tuple p (take n u)) (start_due engine (decoded file) ready few start l)
+
+  pub going_over : (start : Start) → Wide start → is_start (plan_in file scratch lists maps order) start ≡ true → first_from (plan_in file scratch lists maps order) start ≡ None → due_tuples engine (decoded file) start ≡ []
+  going_over start l = here (λ p n. is_start p start ≡ true → first_from p start ≡ None → due_tuples engine (decoded file) start ≡ []) (start_over engine (decoded file) ready few start l)
 
   pub going_held : (t : List ℕ) → Begun (plan_in file scratch lists maps order) (length order) t
       → Placed (width (decoded file)) (length_at (plan_of engine (decoded file))) (take (length order) t) × (held engine (decoded file) (take (length order) t) ≡ true)
@@ -173,15 +182,17 @@ module _ (engine : Engine) (file heads : List ℕ) (c : ℕ) (checks asked : Lis
   pub going_padded : (t : List ℕ) → Begun (plan_in file scratch lists maps order) (length order) t → t ≡ padded (take (length order) t)
   going_padded t b = sym (take-append-drop (length order) t) ∙ padded_back (length order) (take (length order) t) (drop (length order) t) ((going_held t b).0.long ∙ sym many) b.zeros-after
 
-  module _ (ts : List (List ℕ)) (count : ℕ) (tuple : List ℕ) (raw : List ℤ) (g : Going (plan_in file scratch lists maps order) (length order) ts count true tuple raw) where
-    going_there : Going (plan_of engine (decoded file)) (width (decoded file)) ts count true tuple raw
-    going_there = there (λ p n. Going p n ts count true tuple raw) g
+  module _ (ts : List (List ℕ)) (count : ℕ) (tuple : List ℕ) (raw : List ℤ) (g : Going (plan_in file scratch lists maps order) (length order) ts count tuple raw) where
+    going_there : Going (plan_of engine (decoded file)) (width (decoded file)) ts count tuple raw
+    going_there = there (λ p n. Going p n ts count tuple raw) g
 
     pub going_next : drop count ts ≡ take (length order) tuple ∷ cond (has_tuple_after (plan_in file scratch lists maps order) (take (length order) tuple)) (from_tuple (plan_in file scratch lists maps order) (tuple_after (plan_in file scratch lists maps order) (take (length order) tuple))) []
     going_next = here (λ p n. drop count ts ≡ take n tuple ∷ cond (has_tuple_after p (take n tuple)) (from_tuple p (tuple_after p (take n tuple))) []) (next_due engine (decoded file) ready few ts count tuple raw going_there)
 
-    pub going_turn : (more : Bool) (u : List ℕ) (r : List ℤ) → more ≡ has_tuple_after (plan_in file scratch lists maps order) (take (length order) tuple)
-        → u ≡ cond (has_tuple_after (plan_in file scratch lists maps order) (take (length order) tuple)) (tuple_after (plan_in file scratch lists maps order) (take (length order) tuple)) (take (length order) tuple) → Stands (plan_in file scratch lists maps order) u r
-        → Going (plan_in file scratch lists maps order) (length order) ts (count + 1) more (u ++ drop (length order) tuple) (r ++ drop (length order) raw)
-    going_turn more u r = here (λ p n. more ≡ has_tuple_after p (take n tuple) → u ≡ cond (has_tuple_after p (take n tuple)) (tuple_after p (take n tuple)) (take n tuple) → Stands p u r → Going p n ts (count + 1) more (u ++ drop n tuple) (r ++ drop n raw))
-        (turn engine (decoded file) ready few ts count tuple raw going_there more u r)
+    pub going_last : has_tuple_after (plan_in file scratch lists maps order) (take (length order) tuple) ≡ false → drop (count + 1) ts ≡ []
+    going_last = here (λ p n. has_tuple_after p (take n tuple) ≡ false → drop (count + 1) ts ≡ []) (turn_over engine (decoded file) ready few ts count tuple raw going_there)
+
+    pub going_turn : (u : List ℕ) (r : List ℤ) → has_tuple_after (plan_in file scratch lists maps order) (take (length order) tuple) ≡ true → u ≡ tuple_after (plan_in file scratch lists maps order) (take (length order) tuple) → Stands (plan_in file scratch lists maps order) u r
+        → Going (plan_in file scratch lists maps order) (length order) ts (count + 1) (u ++ drop (length order) tuple) (r ++ drop (length order) raw)
+    going_turn u r = here (λ p n. has_tuple_after p (take n tuple) ≡ true → u ≡ tuple_after p (take n tuple) → Stands p u r → Going p n ts (count + 1) (u ++ drop n tuple) (r ++ drop n raw))
+        (turn engine (decoded file) ready few ts count tuple raw going_there u r)

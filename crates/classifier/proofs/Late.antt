@@ -21,11 +21,9 @@ use Rattle.compose.specs.Walk.{Plan, plan_of}
 use Rattle.compose.proofs.Found.{no_tuple}
 use Rattle.compose.proofs.Walk.{Ready, plan_width}
 use Rattle.evaluate.specs.Code.{checks_of, unsettled}
-use Rattle.classifier.specs.Code.{as_page, is_start, last_by, late_fault, late_number, paged_as, refused_with, rules_of}
+use Rattle.classifier.specs.Code.{is_start, late_fault, late_number, refused_with, rules_of}
 use Rattle.classifier.specs.Count.{engine_fault, scratch_after, scratch_for}
 use Rattle.classifier.specs.Page.{Page, Start, after_tuple, beginning, due, due_tuples, is_none, output_short, page_answer, page_fault, page_of, page_output, page_words, words_of}
-use Rattle.classifier.specs.declared.page.Answer as code
-use Rattle.classifier.specs.declared.page.Answer.TheVariants as answers
 use Rattle.classifier.proofs.Answered.{fault_file, fault_room, fault_short}
 use Rattle.classifier.proofs.Starts.{Wide, due-none, due_start, due_start-none}
 use Rattle.classifier.proofs.Walked.{walking_ready}
@@ -98,24 +96,20 @@ module _ (engine : Engine) (s : Spec) (room : ℕ) (start : Start) where
       clears exhaustive = unfold engine_fault in low (output_short s room) (is_none (due exhaustive s start))
 
 -- ---- answers
--- Refused by f, or else a page: the answer, the last tuple and the output.
-abbrev pub Gives : Option Refused → Page → List ℤ → List ℤ → Answer Refused Page → List ℕ → List ℤ → Type 0
-Gives f page new old a last out = (a ≡ answer f page) × ((last ≡ last_by (answer f page)) × (out ≡ unless_refused f new old))
-
-last_is : (a : code.Answer) (last : List ℕ) (page : Page) → as_page a last ≡ accepted page → last ≡ page.last
-last_is (answers.Written n done) last page e = ap last_by e
-last_is (answers.Refused r) last page e = let z : ◌≡◌ {A = ℕ} 0 1 = cc in absurd (omega arith)
+-- Refused by f, or else a page: the answer and the output.
+abbrev pub Gives : Option Refused → Page → List ℤ → List ℤ → Answer Refused Page → List ℤ → Type 0
+Gives f page new old a out = (a ≡ answer f page) × (out ≡ unless_refused f new old)
 
 module _ (f : Option Refused) (page : Page) (new old : List ℤ) where
-  pub gives_refused : (r : Refused) → f ≡ some r → (a : Answer Refused Page) (last : List ℕ) → a ≡ refused r → last ≡ zeros 32 → Gives f page new old a last old
-  gives_refused r e a last ea el = rw e (ea, (el, refl))
+  pub gives_refused : (r : Refused) → f ≡ some r → Gives f page new old (refused r) old
+  gives_refused r e = rw e (refl, refl)
 
-  pub gives_page : f ≡ none → (a : code.Answer) (last : List ℕ) (out : List ℤ) → as_page a last ≡ accepted page → out ≡ new → Gives f page new old (as_page a last) last out
-  gives_page e a last out ea eo = rw e (ea, (last_is a last page ea, eo))
+  pub gives_page : f ≡ none → (p : Page) (out : List ℤ) → p ≡ page → out ≡ new → Gives f page new old (accepted p) out
+  gives_page e p out ep eo = rw e (ap accepted ep, eo)
 
 -- ---- without fields
 pub fieldless : (engine : Engine) (s : Spec) (room : ℕ) (old : List ℤ) (start : Start) → width s ≡ 0 → is_start (plan_of engine s) start ≡ true
-    → (paged_as 0 (zeros 32) true ≡ accepted (page_of s room (due_tuples engine s start) start)) × (old ≡ over (page_words engine s room (due_tuples engine s start)) old)
+    → (record { count = 0; last = zeros 32; done = true } ≡ page_of s room (due_tuples engine s start) start) × (old ≡ over (page_words engine s room (due_tuples engine s start)) old)
 unfolding page_of page_words
 fieldless engine s room old beginning e h = rw (ap (λ (o : Option (List (List ℕ))). get_or o []) (due-none engine s e), zero-min) (refl, refl)
 fieldless engine s room old (after_tuple t) e h = let z : ◌≡◌ {A = Bool} false true = sym (no_tuple engine s e t) ∙ h in absurd (false≢true z)
@@ -126,7 +120,7 @@ module _ (engine : Engine) (file heads : List ℕ) (c : ℕ) (scratch : List ℤ
   none-due start l = go (length order) refl ∙ ap (λ (p : Plan). not (is_start p start)) (sym planned.plan-is)
     where
       ready : 0 < length order → Ready engine (decoded file)
-      ready h = walking_ready engine file heads c (checks_of file (rules_of heads (length order) c) c) (unsettled file (rules_of heads (length order) c) scratch lists maps c) scratch lists maps order
+      ready h = walking_ready {checks = checks_of file (rules_of heads (length order) c) c} {due = unsettled file (rules_of heads (length order) c) scratch lists maps c}
           (record { fielded = h; opened = opened; planned = planned; sound = sound; checks-are = refl; due-are = refl })
 
       go : (n : ℕ) → length order ≡ n → is_none (due engine (decoded file) start) ≡ not (is_start (plan_of engine (decoded file)) start)
@@ -135,38 +129,35 @@ module _ (engine : Engine) (file heads : List ℕ) (c : ℕ) (scratch : List ℤ
 
 -- ---- a whole file
 module _ (engine : Engine) (room : ℕ) (file : List ℕ) (start : Start) (old scratch : List ℤ) where
-  -- The answer, the last tuple, the output and the scratch.
-  abbrev pub Leaves : Answer Refused Page → List ℕ → List ℤ → List ℤ → Type 0
-  Leaves a last out left = (a ≡ page_answer engine (length scratch) room file start) × ((last ≡ last_by (page_answer engine (length scratch) room file start))
-      × ((out ≡ page_output engine (length scratch) file start old) × (left ≡ scratch_after (page_fault engine (length scratch) room file start) scratch)))
+  -- The answer, the output and the scratch.
+  abbrev pub Leaves : Answer Refused Page → List ℤ → List ℤ → Type 0
+  Leaves a out left = (a ≡ page_answer engine (length scratch) room file start) × (out ≡ page_output engine (length scratch) file start old) × (left ≡ scratch_after (page_fault engine (length scratch) room file start) scratch)
 
-  leaves_by : room ≡ length old → (f : Option Refused) → page_fault engine (length scratch) room file start ≡ f → (a : Answer Refused Page) (last : List ℕ) (out left : List ℤ)
-      → Gives f (page_of (decoded file) room (due_tuples engine (decoded file) start) start) (over (page_words engine (decoded file) room (due_tuples engine (decoded file) start)) old) old a last out
-      → left ≡ scratch_after f scratch → Leaves a last out left
+  leaves_by : room ≡ length old → (f : Option Refused) → page_fault engine (length scratch) room file start ≡ f → (a : Answer Refused Page) (out left : List ℤ)
+      → Gives f (page_of (decoded file) room (due_tuples engine (decoded file) start) start) (over (page_words engine (decoded file) room (due_tuples engine (decoded file) start)) old) old a out
+      → left ≡ scratch_after f scratch → Leaves a out left
   unfolding page_answer page_output
-  leaves_by er f e a last out left g l = (
+  leaves_by er f e a out left g l = (
     g.0 ∙ ap (λ (o : Option Refused). answer o (page_of (decoded file) room (due_tuples engine (decoded file) start) start)) (sym e),
-    (
-      g.1.0 ∙ ap (λ (o : Option Refused). last_by (answer o (page_of (decoded file) room (due_tuples engine (decoded file) start) start))) (sym e),
-      (g.1.1 ∙ ap (λ (o : Option Refused). unless_refused o (over (page_words engine (decoded file) room (due_tuples engine (decoded file) start)) old) old) (sym e) ∙ rw er refl, l ∙ ap (λ (o : Option Refused). scratch_after o scratch) (sym e)),
-    ),
+    g.1 ∙ ap (λ (o : Option Refused). unless_refused o (over (page_words engine (decoded file) room (due_tuples engine (decoded file) start)) old) old) (sym e) ∙ rw er refl,
+    l ∙ ap (λ (o : Option Refused). scratch_after o scratch) (sym e),
   )
 
   -- 1 to 10
-  pub leaves_file : room ≡ length old → (r : Refused) → file_fault file ≡ some r → (a : Answer Refused Page) (last : List ℕ) → a ≡ refused r → last ≡ zeros 32 → Leaves a last old scratch
+  pub leaves_file : room ≡ length old → (r : Refused) → file_fault file ≡ some r → Leaves (refused r) old scratch
   unfolding page_fault
-  leaves_file er r e a last ea el =
+  leaves_file er r e =
       let low : r.number ≤ 11 = let l = subst (λ (o : Option Refused). number_of o ≤ 10) e (file_low file) in omega arith in
-      leaves_by er (some r) (rw (fault_file engine (length scratch) file r e)) a last old scratch (ea, (el, refl)) (ap (λ (b : Bool). cond b scratch (replicate (length scratch) (pos 0))) (sym (leb_yes r.number 11 low)))
+      leaves_by er (some r) (rw (fault_file engine (length scratch) file r e)) (refused r) old scratch (refl, refl) (ap (λ (b : Bool). cond b scratch (replicate (length scratch) (pos 0))) (sym (leb_yes r.number 11 low)))
 
   -- 11
-  pub leaves_short : room ≡ length old → file_fault file ≡ none → length scratch < scratch_for (decoded file) → (a : Answer Refused Page) (last : List ℕ) → a ≡ refused (refused_with 11) → last ≡ zeros 32 → Leaves a last old scratch
+  pub leaves_short : room ≡ length old → file_fault file ≡ none → length scratch < scratch_for (decoded file) → Leaves (refused (refused_with 11)) old scratch
   unfolding page_fault
-  leaves_short er good short a last ea el = leaves_by er (some (refused_with 11)) (rw (fault_short engine (length scratch) file good short)) a last old scratch (ea, (el, refl)) refl
+  leaves_short er good short = leaves_by er (some (refused_with 11)) (rw (fault_short engine (length scratch) file good short)) (refused (refused_with 11)) old scratch (refl, refl) refl
 
   -- 12 to 15, or the page
-  pub leaves_late : room ≡ length old → file_fault file ≡ none → scratch_for (decoded file) ≤ length scratch → (a : Answer Refused Page) (last : List ℕ) (out left : List ℤ)
-      → Gives (late_fault engine (decoded file) room start) (page_of (decoded file) room (due_tuples engine (decoded file) start) start) (over (page_words engine (decoded file) room (due_tuples engine (decoded file) start)) old) old a last out
-      → left ≡ replicate (length scratch) (pos 0) → Leaves a last out left
+  pub leaves_late : room ≡ length old → file_fault file ≡ none → scratch_for (decoded file) ≤ length scratch → (a : Answer Refused Page) (out left : List ℤ)
+      → Gives (late_fault engine (decoded file) room start) (page_of (decoded file) room (due_tuples engine (decoded file) start) start) (over (page_words engine (decoded file) room (due_tuples engine (decoded file) start)) old) old a out
+      → left ≡ replicate (length scratch) (pos 0) → Leaves a out left
   unfolding page_fault
-  leaves_late er good fits a last out left g l = leaves_by er (late_fault engine (decoded file) room start) (rw (fault_room engine (length scratch) file good fits)) a last out left g (l ∙ sym (late_clears engine (decoded file) room start scratch))
+  leaves_late er good fits a out left g l = leaves_by er (late_fault engine (decoded file) room start) (rw (fault_room engine (length scratch) file good fits)) a out left g (l ∙ sym (late_clears engine (decoded file) room start scratch))

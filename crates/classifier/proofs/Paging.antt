@@ -14,10 +14,8 @@ use lib.Seq.{drop_at, take_at}
 use Rattle.lists.specs.Lists.{concat_map, over}
 use Rattle.lists.proofs.Lists.{concat_map_append}
 use Rattle.lists.proofs.Tests.{leb_no, leb_yes}
-use Rattle.spec.specs.Refusal.{Answer, Refused, accepted}
 use Rattle.spec.specs.Spec.{Spec}
 use Rattle.compose.specs.Tuples.{Engine, padded}
-use Rattle.classifier.specs.Code.{paged_as}
 use Rattle.classifier.specs.Count.{verdict_of}
 use Rattle.classifier.specs.Page.{Page, Start, fit_count, last_or, page_of, page_words, start_tuple, words, words_of}
 
@@ -111,8 +109,8 @@ module _ (w : List ℕ → List ℤ) (k : ℕ) (old : List ℤ) (ts : List (List
 module _ (engine : Engine) (s : Spec) (start : Start) (k : ℕ) (wide : k ≡ words_of (length s.fields)) (old : List ℤ) (ts : List (List ℕ)) (at count : ℕ) (last : List ℕ) (out : List ℤ)
     (st : Writing (λ t. words (verdict_of engine s t)) k old ts (start_tuple start) at count last out) where
   -- What the page answers, and what stands in the output.
-  abbrev pub Ends : Answer Refused Page → Type 0
-  Ends a = (a ≡ accepted (page_of s (length old) ts start)) × (out ≡ over (page_words engine s (length old) ts) old)
+  abbrev pub Ends : Page → Type 0
+  Ends a = (a ≡ page_of s (length old) ts start) × (out ≡ over (page_words engine s (length old) ts) old)
 
   fit_is : (min (length ts) (length old / k) ≡ count) → fit_count s (length old) ts ≡ count
   fit_is e = ap (λ (x : ℕ). min (length ts) (length old / x)) (sym wide) ∙ e
@@ -121,13 +119,13 @@ module _ (engine : Engine) (s : Spec) (start : Start) (k : ℕ) (wide : k ≡ wo
   unfolding page_words
   out_is e = st.words_are ∙ ap (λ (x : ℕ). concat_map (λ t. words (verdict_of engine s t)) (take count ts) ++ drop x old) (sym st.long) ∙ ap (λ (x : ℕ). over (concat_map (λ t. words (verdict_of engine s t)) (take x ts)) old) (sym e)
 
-  pub page_stopped : (t : List ℕ) (rest : List (List ℕ)) → drop count ts ≡ t ∷ rest → length old - at < k → Ends (paged_as count last false)
+  pub page_stopped : (t : List ℕ) (rest : List (List ℕ)) → drop count ts ≡ t ∷ rest → length old - at < k → Ends (record { count = count; last = last; done = false })
   unfolding page_of
   page_stopped t rest e h =
       let f = fit_is (stopped_fit (λ t. words (verdict_of engine s t)) k old ts (start_tuple start) at count last out st t rest e h) in
       (rw (f, st.last_is, leb_no (length ts) count (next_fewer count ts t rest e)), out_is f)
 
-  pub page_finished : drop count ts ≡ [] → Ends (paged_as count last true)
+  pub page_finished : drop count ts ≡ [] → Ends (record { count = count; last = last; done = true })
   unfolding page_of
   page_finished e =
       let f = fit_is (finished_fit (λ t. words (verdict_of engine s t)) k old ts (start_tuple start) at count last out st e (let v = wide in omega arith)) in

@@ -13,25 +13,11 @@ use Rattle.lists.proofs.Tests.{ltb_yes}
 use Rattle.spec.specs.Spec.{Spec}
 use Rattle.spec.proofs.Named.{width}
 use Rattle.compose.specs.Tuples.{Engine, emitted, zeros, padded}
-use Rattle.compose.specs.declared.steps.Stepped.{Stepped}
 use Rattle.compose.specs.Walk.{Plan, first_tuple, has_tuple_after, is_tuple, plan_of, tuple_after}
 use Rattle.compose.proofs.Found.{eq_list-refl, following_from, is_tuple_lem, no_emitted, no_tuple, tuple_placed, tuple_whole}
 use Rattle.compose.proofs.Walk.{Ready, from_tuple, walk_first, walk_step}
-use Rattle.classifier.specs.Code.{as_start, is_start, late_number, step_from}
-use Rattle.classifier.specs.declared.page.Start as code
+use Rattle.classifier.specs.Code.{is_start, late_number}
 use Rattle.classifier.specs.Page.{Start, after_tuple, beginning, due, following, is_none, rest_if}
-
--- ---- the start of the code
-pub given_start : (start : code.Start) → start.given ≡ true → as_start start ≡ after_tuple start.tuple
-given_start start e = ap (λ (b : Bool). cond b (after_tuple start.tuple) beginning) e
-
-pub not-given : (start : code.Start) → start.given ≡ false → as_start start ≡ beginning
-not-given start e = ap (λ (b : Bool). cond b (after_tuple start.tuple) beginning) e
-
--- The step after a given tuple.
-pub step_given : (p : Plan) (n : ℕ) (t : List ℕ) → length p.lists ≡ n → (r : Stepped) → r.more ≡ has_tuple_after p (take n t)
-    → r.tuple ≡ cond (has_tuple_after p (take n t)) (padded (tuple_after p (take n t))) t → r ≡ step_from p (after_tuple t)
-step_given p n t wide r a b = rw wide (λ i. record { more = a i; tuple = b i })
 
 -- ---- 14 and 15
 filled : (n : ℕ) → ltb 0 n ≡ not (eqb n 0)
@@ -67,13 +53,6 @@ none_follows t (u ∷ ts) = go (eq_list (padded u) t) refl (none_follows t ts)
 abbrev pub Wide : Start → Type 0
 Wide beginning = Unit {0}
 Wide (after_tuple t) = length t ≡ 32
-
-pub start_wide : (start : code.Start) → length start.tuple ≡ 32 → Wide (as_start start)
-start_wide start l = go start.given
-  where
-    go : (b : Bool) → Wide (cond b (after_tuple start.tuple) beginning)
-    go true = l
-    go false = tt
 
 module _ (engine : Engine) (s : Spec) (ready : Ready engine s) (few : width s ≤ 32) where
   pub due_first : due engine s beginning ≡ some (from_tuple (plan_of engine s) (first_tuple (plan_of engine s)))

@@ -1,12 +1,11 @@
 -- What a turn of a page asks and writes, on a plan that lies in the file and the scratch.
-use mathlib.Core.Bool.{Bool, cond, true}
-use mathlib.Core.List.{List, []}
+use mathlib.Core.List.{List}
 use mathlib.Core.Option.{Option, none, some}
 use mathlib.Core.Path.{◌∙◌, ◌≡◌, ap, fun_ext, subst, sym}
 use Prim.Native.Nat.{◌+◌, suc, ℕ}
 use native.Mathlib.Omega.{arith}
 use lib.IntN.{ℤ}
-use lib.ListN.{get_or, length, length-append, take}
+use lib.ListN.{length, length-append, take}
 use Rattle.spec.specs.Record.{decoded}
 use Rattle.spec.proofs.Named.{width}
 use Rattle.registry.specs.Code.{RowIn}
@@ -19,21 +18,17 @@ use Rattle.compose.proofs.Emitted.{held}
 use Rattle.compose.proofs.Forcing.{length_forced}
 use Rattle.compose.proofs.Rows.{length-values}
 use Rattle.compose.proofs.Stepping.{width_in}
-use Rattle.compose.proofs.Walk.{from_tuple, plan_lists}
+use Rattle.compose.proofs.Walk.{plan_lists}
 use Rattle.evaluate.specs.Verdict.{Verdict, evaluate}
-use Rattle.classifier.specs.Code.{JudgingIn, ProjectsAs, Settled, Walking, forced_row, rules_of}
+use Rattle.classifier.specs.Code.{Settled, Walking, forced_row, rules_of}
 use Rattle.classifier.specs.Count.{verdict_of}
 use Rattle.classifier.specs.Page.{projection_words, words}
 use Rattle.classifier.proofs.Going.{Begun, going_held}
-use Rattle.classifier.proofs.Walked.{enables_lie, forced_is, walking_judges, walking_settled, walking_wide}
+use Rattle.classifier.proofs.Walked.{forced_is, walking_settled, walking_wide}
 
 -- The words of a tuple's verdict, n fields and c constraints standing at the heads, and the numbers those of the enable records.
 abbrev pub words_in : List ℕ → List ℕ → ℕ → ℕ → List (List ℤ) → List ℕ → List ℕ → List ℤ
 words_in file heads n c lists numbers t = words (evaluate (decoded file) (forced_row file (rules_of heads n c) numbers (values lists t)))
-
--- The tuples that are due from a step on.
-abbrev pub due_in : Plan → ℕ → Bool → List ℕ → List (List ℕ)
-due_in p n more tuple = cond more (from_tuple p (take n tuple)) []
 
 length-words : (v : Verdict) → length (words v) ≡ length v.values + 4
 length-words v = ap (λ (k : ℕ). suc (suc k)) (length-append (projection_words v.projection) v.values) ∙ go v.projection
@@ -42,7 +37,7 @@ length-words v = ap (λ (k : ℕ). suc (suc k)) (length-append (projection_words
     go none = omega arith
     go (some x) = omega arith
 
-module _ (engine : Engine) (file heads : List ℕ) (c : ℕ) (checks due : List ℕ) (scratch : List ℤ) (lists maps order : List ℕ) (w : Walking engine file heads c checks due scratch lists maps order)
+module _ {engine : Engine} {file heads : List ℕ} {c : ℕ} {checks due : List ℕ} {scratch : List ℤ} {lists maps order : List ℕ} (w : Walking engine file heads c checks due scratch lists maps order)
     (numbers : List ℕ) (chosen : chosen_in file (rules_of heads (length order) c) numbers ≡ enables_of engine (constraints_in file (rules_of heads (length order) c)))
     (kinds : ChosenFrom file (rules_of heads (length order) c) 0 20 22 numbers) where
   abbrev plan : Plan
@@ -69,17 +64,14 @@ module _ (engine : Engine) (file heads : List ℕ) (c : ℕ) (checks due : List 
         length-words (evaluate (decoded file) (forced_row file (rules_of heads (length order) c) numbers row)) ∙ ap (λ (k : ℕ). k + 4) (length_forced (chosen_in file (rules_of heads (length order) c) numbers) row ∙ ap length (sym st.row_is) ∙ raw-long)
 
     fits : Placed (width (decoded file)) (length_at (plan_of engine (decoded file))) (take (length order) tuple) × (held engine (decoded file) (take (length order) tuple) ≡ true)
-    fits = going_held engine file heads c checks due scratch lists maps order w tuple b
+    fits = going_held w tuple b
 
     row_is : raw ≡ values (lists_of engine (decoded file)) (take (length order) tuple)
     row_is = st.row_is ∙ ap (λ (ls : List (List ℤ)). values ls (take (length order) tuple)) lists-are
 
     -- What a verdict asks of the row.
-    pub turn_asks : (fields rules : List ℕ) → fields ≡ take (suc (length order)) heads → rules ≡ rules_of heads (length order) c
-        → JudgingIn file fields rules numbers checks due (length raw) × Settled file fields rules due raw × RowIn (forced_row file rules numbers raw) × ProjectsAs file (get_or heads (length order + c) 0) (length raw)
-    turn_asks fields rules ef er = rw (ef, er, raw-long) (
-      walking_judges engine file heads c checks due scratch lists maps order w numbers (enables_lie file heads (length order) c numbers w.opened kinds),
-      subst (Settled file (take (suc (length order)) heads) (rules_of heads (length order) c) due) (sym row_is) (walking_settled engine file heads c checks due scratch lists maps order w (take (length order) tuple) (subst (λ (k : ℕ). Placed k (length_at (plan_of engine (decoded file))) (take (length order) tuple)) (sym (walking_wide engine file heads c checks due scratch lists maps order w)) fits.0) fits.1),
-      subst RowIn (ap (force engine (decoded file).constraints) (sym row_is) ∙ sym (forced_by raw)) (rows_scaled engine file w.opened.accepted (take (length order) tuple) fits.0),
-      record { inside = w.opened.projector_in_lem w.fielded; is = w.opened.projector_is },
-    )
+    pub turn_settled : Settled file (take (suc (length order)) heads) (rules_of heads (length order) c) due raw
+    turn_settled = subst (Settled file (take (suc (length order)) heads) (rules_of heads (length order) c) due) (sym row_is) (walking_settled w (take (length order) tuple) (subst (λ (k : ℕ). Placed k (length_at (plan_of engine (decoded file))) (take (length order) tuple)) (sym (walking_wide w)) fits.0) fits.1)
+
+    pub turn_row : RowIn (forced_row file (rules_of heads (length order) c) numbers raw)
+    turn_row = subst RowIn (ap (force engine (decoded file).constraints) (sym row_is) ∙ sym (forced_by raw)) (rows_scaled engine file w.opened.accepted (take (length order) tuple) fits.0)

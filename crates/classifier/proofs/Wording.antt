@@ -53,7 +53,7 @@ pub flag_no : (place : ℕ) → ¬ (place ≡ 0) → pos 0 ≡ flag (eqb place 0
 flag_no place h = sym (ap flag (eqb_no place 0 h))
 
 -- ---- a verdict
-module _ (file fields rules enables checks due : List ℕ) (raw : List ℤ) (j : JudgingIn file fields rules enables checks due (length raw)) where
+module _ {file fields rules enables checks due : List ℕ} {raw : List ℤ} (j : JudgingIn file fields rules enables checks due (length raw)) where
   pub forced_long : length (forced_row file rules enables raw) ≡ length raw
   forced_long = length_forced (chosen_in file rules enables) raw
 
@@ -62,7 +62,7 @@ module _ (file fields rules enables checks due : List ℕ) (raw : List ℤ) (j :
   place_few row =
       let f = field_checks (decoded file).fields row in
       let h = map (holds row) (decoded file).constraints in
-      let n = length-field_checks (decoded file).fields row ∙ wide file fields rules enables checks due (length raw) j in
+      let n = length-field_checks (decoded file).fields row ∙ wide j in
       omega (arith, first_false_le (f ++ h), length-append f h, n, length-map (decoded file).constraints (holds row), j.few, j.rules-few, j.constraints_many)
 
   module _ (out : List ℤ) (long : length out ≡ length raw + 4) (row : List ℤ) (forced : row ≡ forced_row file rules enables raw) where

@@ -4,4 +4,6 @@
 pub mod count;
 mod judge;
 pub mod page;
+mod tabled;
 mod tally;
+pub mod writing;

@@ -27,6 +27,21 @@ pub struct Checks<'a> {
 }
 
 impl<'a> Checks<'a> {
+    // Others of the same constraints.
+    pub fn choosing(&self, chosen: &'a [u8]) -> Checks<'a>
+        requires { ChecksIn self.now.file.now self.now.heads.now chosen.now self.now.fields }
+        ensures chosen { result.chosen.now ≡ chosen.now }
+        ensures same { (result.file.now ≡ self.now.file.now) × (result.heads.now ≡ self.now.heads.now) × (result.fields ≡ self.now.fields) }
+    {
+        Checks {
+            file: self.file,
+            heads: self.heads,
+            chosen,
+            index: self.index,
+            fields: self.fields,
+        }
+    }
+
     // The number of the first that does not hold, counted from 0.
     fn first_failing(&self, row: &[i64]) -> Option<usize>
         requires { length row.now ≡ self.now.fields }
