@@ -43,20 +43,11 @@ fits_no n = go (ltb n (2 ^ 63)) refl
     go false t e = no_ge n (2 ^ 63) t
 
 -- ---- v × 2^k
-halved : (k : ℕ) → k < 64 → 2 ^ 63 / 2 ^ k ≡ 2 ^ (63 - k)
-halved k h = in_range (λ k. 2 ^ 63 / 2 ^ k) (λ k. 2 ^ (63 - k)) 0 64 refl k (omega arith) h
+pub raised_below : (v k : ℕ) → k < 64 → v < 2 ^ (63 - k) → v * 2 ^ k < 2 ^ 63
+raised_below v k h l = yes_lt (v * 2 ^ k) (2 ^ 63) (shift_fits v k (omega arith) ∙ ltb_yes v (2 ^ (63 - k)) l)
 
-pub raised_below : (v k : ℕ) → k < 64 → v < 2 ^ 63 / 2 ^ k → v * 2 ^ k < 2 ^ 63
-raised_below v k h l = yes_lt (v * 2 ^ k) (2 ^ 63) (shift_fits v k (omega arith) ∙ ltb_yes v (2 ^ (63 - k)) (subst (λ n. v < n) (halved k h) l))
-
-pub raised_over : (v k : ℕ) → k < 64 → 2 ^ 63 / 2 ^ k ≤ v → 2 ^ 63 ≤ v * 2 ^ k
-raised_over v k h l = no_ge (v * 2 ^ k) (2 ^ 63) (shift_fits v k (omega arith) ∙ ltb_no v (2 ^ (63 - k)) (subst (λ n. n ≤ v) (halved k h) l))
-
-pub held_raised : (n : ℕ) → n < 2 ^ 63 → n % 18446744073709551616 ≡ n
-held_raised n h = omega arith
-
-pub power_held : (k : ℕ) → k < 64 → 1 * 2 ^ k % 18446744073709551616 ≡ 2 ^ k
-power_held k h = in_range (λ k. 1 * 2 ^ k % 18446744073709551616) (λ k. 2 ^ k) 0 64 refl k (omega arith) h
+pub raised_over : (v k : ℕ) → k < 64 → 2 ^ (63 - k) ≤ v → 2 ^ 63 ≤ v * 2 ^ k
+raised_over v k h l = no_ge (v * 2 ^ k) (2 ^ 63) (shift_fits v k (omega arith) ∙ ltb_no v (2 ^ (63 - k)) l)
 
 pub offset_absent : (v : ℕ) (offset : ℤ) → lt_z offset (pos 0) ≡ true → word_by true 0 ≡ word_of (at_offset (offset_by offset) v)
 offset_absent v (pos k) e = absurd (let h = yes_lt k 0 e in omega arith)

@@ -9,6 +9,7 @@ pub mod Passing
 pub mod Fields
 pub mod Runs
 pub mod Multiples
+pub mod Powers
 pub mod Axis
 pub mod Refusals
 pub mod Judged

@@ -14,3 +14,4 @@ pub mod refusal;
 mod scan;
 mod shape;
 pub mod validate;
+mod walker;

@@ -5,11 +5,12 @@ ghost use Rattle.lists.specs.Lists.{product};
 ghost use Rattle.spec.specs.Record.{records_of, decoded};
 ghost use Rattle.spec.specs.Refusal.{records_fault};
 ghost use Rattle.spec.specs.Shape.{stands_at};
-ghost use Rattle.spec.specs.Code.{capped, lengths, section_at, section_number};
+ghost use Rattle.spec.specs.Code.{capped, lengths};
 
 use crate::domains::{domain_len, members, members_end};
 use crate::kinds::Section;
-use crate::records::{kind_at, record_at};
+use crate::records::record_at;
+use crate::walker::Walker;
 
 // A total may be this, and no more.
 pub const LIMIT: usize = 1_000_000_000;
@@ -36,17 +37,6 @@ fn times(a: usize, b: usize) -> usize
     a.saturating_mul(b).min(LIMIT + 1)
 }
 
-// The section of record i; neither at the end of the file.
-fn section_at(file: &[u8], i: usize) -> Section
-    ensures { section_number result ≡ section_at file.now i }
-{
-    if i < file.len() / 32 {
-        kind_at(file, i).section()
-    } else {
-        Section::Neither
-    }
-}
-
 // Goes from field to field, past the values of each.
 pub(crate) fn fields_of(file: &[u8]) -> Fields
     requires { (length file.now ≤ 65536) × (records_fault (records_of file.now) ≡ none) }
@@ -57,7 +47,7 @@ pub(crate) fn fields_of(file: &[u8]) -> Fields
     let mut count = 0;
     let mut product = 1;
     let mut i = 0;
-    while section_at(file, i) == Section::Fields {
+    while (Walker { file, next: i }).section() == Section::Fields {
         let values = members(file, i).len() / 32;
         product = times(product, domain_len(record_at(file, i), values));
         count += 1;
@@ -78,7 +68,7 @@ pub(crate) fn constraints_of(file: &[u8], from: usize) -> Constraints
 {
     let mut count = 0;
     let mut i = from;
-    while section_at(file, i) == Section::Constraints {
+    while (Walker { file, next: i }).section() == Section::Constraints {
         count += 1;
         i = members_end(file, i);
     }

@@ -17,16 +17,16 @@ loop-count-init c = constraints_begin c.args.file.now c.requires.1 c.args.from c
 
 pub loop-count-preserved : goal.loop-count-preserved
 loop-count-preserved c =
-    let same : c.eq.result ≡ eqb (section_number c.section_at.result) 1 = search rules in
-    let h = section_here c.args.file.now c.loop-count.i 1 (omega arith) (sym c.section_at.ensures ∙ yes_eq _ _ (sym same ∙ c.loop-count-test.true)) in
+    let same : c.eq.result ≡ eqb (section_number c.section.result) 1 = search rules in
+    let h = section_here c.args.file.now c.loop-count.i 1 (omega arith) (sym c.section.ensures ∙ yes_eq _ _ (sym same ∙ c.loop-count-test.true)) in
     gone_on 1 is_constraint constraint-section c.args.file.now c.loop-count.i c.loop-count.count c.loop-count.invariant h.0 h.1 c.members_end-i.result c.members_end-i.ensures
 
 -- no constraint is left
 done : (c : After-loop-count) → Done 1 is_constraint constraint-section c.args.file.now c.loop-count.i
 done c =
-    let same : c.eq.result ≡ eqb (section_number c.section_at.result) 1 = search rules in
+    let same : c.eq.result ≡ eqb (section_number c.section.result) 1 = search rules in
     other_done 1 is_constraint constraint-section c.args.file.now c.loop-count.i c.loop-count.count c.loop-count.invariant
-    (λ q. true≢false (sym (eqb_yes _ _ (c.section_at.ensures ∙ q)) ∙ sym same ∙ c.loop-count-test.false))
+    (λ q. true≢false (sym (eqb_yes _ _ (c.section.ensures ∙ q)) ∙ sym same ∙ c.loop-count-test.false))
 
 pub returns-clause-count : goal.returns-clause-count
 returns-clause-count c =

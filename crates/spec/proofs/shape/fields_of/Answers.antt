@@ -24,8 +24,8 @@ field_is : (c : After-members) → (c.loop-values.i < length c.args.file.now / 3
 field_is c =
     let file = c.args.file.now in
     let l = c.loop-values in
-    let same : c.eq.result ≡ eqb (section_number c.section_at.result) 0 = search rules in
-    let h = section_here file l.i 0 (omega arith) (sym c.section_at.ensures ∙ yes_eq _ _ (sym same ∙ c.loop-values-test.true)) in
+    let same : c.eq.result ≡ eqb (section_number c.section.result) 0 = search rules in
+    let h = section_here file l.i 0 (omega arith) (sym c.section.ensures ∙ yes_eq _ _ (sym same ∙ c.loop-values-test.true)) in
     (h.0, field_here _ (gone_head 0 is_field field_section file l.i l.count l.invariant.0 h.0) h.1)
 
 pub domain_len-requires : goal.domain_len-requires
@@ -56,9 +56,9 @@ loop-values-preserved c =
 -- no field is left
 done : (c : After-loop-values) → Done 0 is_field field_section c.args.file.now c.loop-values.i
 done c =
-    let same : c.eq.result ≡ eqb (section_number c.section_at.result) 0 = search rules in
+    let same : c.eq.result ≡ eqb (section_number c.section.result) 0 = search rules in
     other_done 0 is_field field_section c.args.file.now c.loop-values.i c.loop-values.count c.loop-values.invariant.0
-    (λ q. true≢false (sym (eqb_yes _ _ (c.section_at.ensures ∙ q)) ∙ sym same ∙ c.loop-values-test.false))
+    (λ q. true≢false (sym (eqb_yes _ _ (c.section.ensures ∙ q)) ∙ sym same ∙ c.loop-values-test.false))
 
 pub returns-clause-count : goal.returns-clause-count
 returns-clause-count c =
