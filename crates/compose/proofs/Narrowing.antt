@@ -11,6 +11,7 @@ use lib.IntN.{nat_abs, pos, ℤ}
 use lib.ListN.{drop, drop_of_length-le, get_or, length, length-append, length-set, set, take, take-append-drop}
 use lib.Seq.{append_snoc, drop-cons, drop-drop, drop-length, drop-set-lt, get_or-drop, length-take-le, take_at, take-suc-set}
 use Rattle.lists.specs.Integers.{elem_z}
+use Rattle.lists.proofs.Tests.{and-join, eqb_yes}
 use Rattle.lists.specs.Lists.{filter, or_else, over}
 use Rattle.spec.specs.Code.{as_record, ps_of}
 use Rattle.spec.specs.Kind.{ConstraintKind, Kind, bitmask, constraint, cross, enable_mask, enable_set, eq, even, field, ge, gt, kind_of, le, lt, member, neq, oneof, projector, range, unknown}
@@ -20,13 +21,6 @@ use Rattle.spec.specs.declared.records.Record as code
 use Rattle.registry.specs.Code.{group_in, passes, test_by, test_in}
 use Rattle.compose.specs.Maps.{narrow_by, narrow_if}
 use Rattle.compose.specs.Code.{kept_by, narrows_kind, narrows_test}
-
--- The test of a head's code, p and q with the members given, and of the head.
-abbrev pub test_with : ℕ → ℤ → ℤ → List ℕ → ℤ → Bool
-test_with code p q run = passes (test_in (kind_of code) p q (records_of run))
-
-abbrev pub test_of : code.Record → List ℕ → ℤ → Bool
-test_of h run = test_with h.code h.p h.q run
 
 -- A value is among the items of a oneof, the members given.
 abbrev pub is_item : List ℕ → ℤ → Bool
@@ -125,21 +119,6 @@ module _ (new l left : List ℤ) (kept : ℕ) (count : kept ≡ length new) (fro
       let e = sym (some-kept new l (λ z. n (count ∙ z))) in
       (count ∙ ap length e, front ∙ ap (λ (m : List ℤ). over m l) e)
 
--- ---- a oneof by its items: left is l with the values that are among them moved to the front, kept of them
-module _ (code : ℕ) (is-oneof : code ≡ 18) (p q : ℤ) (run : List ℕ) (l left : List ℤ) (kept : ℕ) (count : kept ≡ length (filter (is_item run) l)) (front : left ≡ over (filter (is_item run) l) l) where
-  abbrev narrowed : List ℤ
-  narrowed = kept_by (test_in (kind_of code) p q (records_of run)) l
-
-  items_kept : narrowed ≡ or_else (filter (is_item run) l) l
-  unfolding kind_of
-  items_kept = rw is-oneof
-
-  pub found_none : kept ≡ 0 → (length left ≡ length narrowed) × (left ≡ over narrowed l)
-  found_none z = subst (λ (m : List ℤ). (length left ≡ length m) × (left ≡ over m l)) (sym items_kept) (left-none (filter (is_item run) l) l left kept count front z)
-
-  pub found_some : ¬ (kept ≡ 0) → (kept ≡ length narrowed) × (left ≡ over narrowed l)
-  found_some n = subst (λ (m : List ℤ). (kept ≡ length m) × (left ≡ over m l)) (sym items_kept) (left-some (filter (is_item run) l) l left kept count front n)
-
 -- ---- by kind
 narrow_if_lem : (narrowing same : Bool) (t : Test) (l : List ℤ) → narrow_if (same && narrowing) t l ≡ cond (narrowing && same) (kept_by (some t) l) l
 narrow_if_lem true true t l = refl
@@ -171,14 +150,21 @@ module _ (h : Record) (ms : List Record) (f : ℕ) (l : List ℤ) where
   by_kind (projector k) = refl
   by_kind (member k) = refl
 
--- The same of a head where it lies, read as h.
-pub narrowed_is : (h : code.Record) (file : List ℕ) (head end f : ℕ) (l : List ℤ) (b : Bool) → as_record h ≡ record_at file head → (narrows_kind (kind_of h.code) && eqb h.a f) ≡ b
-    → foldl (narrow_by f) l (constraint_of (group_in file head end)) ≡ cond b (kept_by (test_in (kind_of h.code) h.p h.q (take (end - suc head) (drop (suc head) (records_of file)))) l) l
-narrowed_is h file head end f l b e t =
-    let ms = take (end - suc head) (drop (suc head) (records_of file)) in
-    ap (λ (r : Record). foldl (narrow_by f) l (constraint_of (group r ms))) (sym e)
-    ∙ by_kind (as_record h) ms f l (kind_of h.code)
-    ∙ ap (λ (a : Bool). cond a (kept_by (test_in (kind_of h.code) h.p h.q ms) l) l) t
+-- The same of a head of kind k where it lies, read as h, with the members given.
+pub narrowed_as : (h : code.Record) (file : List ℕ) (head end f : ℕ) (l : List ℤ) (k : Kind) (ms : List Record)
+    → as_record h ≡ record_at file head
+    → (as_record h).kind ≡ k
+    → narrows_kind k ≡ true
+    → h.a ≡ f
+    → ms ≡ take (end - suc head) (drop (suc head) (records_of file))
+    → foldl (narrow_by f) l (constraint_of (group_in file head end)) ≡ kept_by (test_in k h.p h.q ms) l
+narrowed_as h file head end f l k ms e is n a m =
+    let its = take (end - suc head) (drop (suc head) (records_of file)) in
+    ap (λ (r : Record). foldl (narrow_by f) l (constraint_of (group r its))) (sym e)
+    ∙ by_kind (as_record h) its f l (as_record h).kind
+    ∙ ap (λ (x : Kind). cond (narrows_kind x && eqb h.a f) (kept_by (test_in x h.p h.q its) l) l) is
+    ∙ ap (λ (b : Bool). cond b (kept_by (test_in k h.p h.q its) l) l) (and-join n (eqb_yes h.a f a))
+    ∙ ap (λ (rs : List Record). kept_by (test_in k h.p h.q rs) l) (sym m)
 
 -- ---- a list narrowed in front of others
 module _ (new old rest : List ℤ) (r : ℕ) (e : r ≡ length new) where

@@ -105,13 +105,15 @@ fn narrow_by(file: &[u8], head: usize, end: usize, f: usize, list: &mut [i64]) -
         return list.len();
     }
     let run = part(file, head + 1, end);
-    let met = match h.kind {
+    let kind = h.kind;
+    let met = match kind {
         Kind::Range => compact(list, |v| meets(Kind::Range, h.p, h.q, run, v)),
         Kind::Oneof => compact_items(list, run),
         Kind::Bitmask => compact(list, |v| meets(Kind::Bitmask, h.p, h.q, run, v)),
         _ => return list.len(),
     };
-    if met == 0 { list.len() } else { met }
+    let none = met == 0;
+    if none { list.len() } else { met }
 }
 
 // Narrows it by each constraint, in file order.
