@@ -29,19 +29,19 @@ met c =
         p = p;
         count = u.met-is ∙ u.compact-met.ensures.count p (λ x b f e. search rules);
         front = u.list-is ∙ u.compact-met.ensures.left p (λ x b f e. search rules);
-        is = narrowed_as h c.args.file.now c.args.head c.args.end c.args.f list (constraint range) (records_of run) c.record_at-h.ensures.read (sym c.from-kind.ensures.0 ∙ ap as_kind u.in-Range.is) refl c.if-h-f.false its;
+        is = narrowed_as h c.args.file.now c.args.head c.args.end c.args.f list (constraint range) (records_of run) c.record_at-h.ensures.read (ap as_kind u.in-Range.is) refl c.if-h-f.false its;
       }
       | in-Oneof u ↦ record {
         p = is_item run;
         count = u.met-is ∙ u.compact_items-met.ensures.count;
         front = u.list-is ∙ u.compact_items-met.ensures.left;
-        is = narrowed_as h c.args.file.now c.args.head c.args.end c.args.f list (constraint oneof) (records_of run) c.record_at-h.ensures.read (sym c.from-kind.ensures.0 ∙ ap as_kind u.in-Oneof.is) refl c.if-h-f.false its;
+        is = narrowed_as h c.args.file.now c.args.head c.args.end c.args.f list (constraint oneof) (records_of run) c.record_at-h.ensures.read (ap as_kind u.in-Oneof.is) refl c.if-h-f.false its;
       }
       | in-Bitmask u ↦ let p = passes (test_in (constraint bitmask) h.p h.q (records_of run)) in record {
         p = p;
         count = u.met-is ∙ u.compact-met-in-Bitmask.ensures.count p (λ x b f e. search rules);
         front = u.list-is ∙ u.compact-met-in-Bitmask.ensures.left p (λ x b f e. search rules);
-        is = narrowed_as h c.args.file.now c.args.head c.args.end c.args.f list (constraint bitmask) (records_of run) c.record_at-h.ensures.read (sym c.from-kind.ensures.0 ∙ ap as_kind u.in-Bitmask.is) refl c.if-h-f.false its;
+        is = narrowed_as h c.args.file.now c.args.head c.args.end c.args.f list (constraint bitmask) (records_of run) c.record_at-h.ensures.read (ap as_kind u.in-Bitmask.is) refl c.if-h-f.false its;
       }
     ]
 
