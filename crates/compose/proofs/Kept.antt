@@ -7,17 +7,15 @@ use Prim.Native.Nat.{◌+◌, ◌-◌, ◌<◌, ◌≤◌, suc, ℕ}
 use native.Mathlib.Decide.{ℕ_discrete}
 use native.Mathlib.Numerals.{add-one}
 use native.Mathlib.Omega.{arith}
-use lib.Dec.{eqb, ltb}
+use lib.Dec.{eqb}
 use lib.ListN.{drop, get_or, get_or-replicate, length, length-set, replicate, set, take}
 use lib.Seq.{get_or-set_other, get_or-set_same}
 use Rattle.lists.specs.Lists.{upto}
 use Rattle.lists.proofs.All.{upto-All}
 use Rattle.lists.proofs.Lists.{map_ext}
-use Rattle.lists.proofs.Range.{in_range}
-use Rattle.lists.proofs.Tests.{eqb_no, eqb_yes, ltb_yes, no_ge, yes_lt}
-use Rattle.spec.specs.Kind.{ConstraintKind, Kind, bitmask, constraint, cross, enable_mask, enable_set, eq, even, field, ge, gt, kind_of, le, lt, member, neq, oneof, projector, range, unknown}
+use Rattle.lists.proofs.Tests.{eqb_no, eqb_yes}
+use Rattle.spec.specs.Kind.{ConstraintKind, Kind, bitmask, constraint, cross, enable_mask, enable_set, eq, even, field, ge, gt, le, lt, member, neq, oneof, projector, range, unknown}
 use Rattle.spec.specs.Record.{Record, constraint_by, constraint_in, constraint_of, entry_of, record_at, records_of}
-use Rattle.spec.proofs.Fields.{kind_of_lem}
 use Rattle.registry.specs.Code.{HeadIn}
 use Rattle.std.specs.Prelude.{None, Some}
 use Rattle.spec.specs.Code.{as_kind}

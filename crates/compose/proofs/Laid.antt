@@ -5,10 +5,10 @@ use Prim.Native.Nat.{◌+◌, ◌-◌, ◌/◌, ◌<◌, ◌≤◌, suc, ℕ}
 use native.Mathlib.Nat.{add-zero, zero-add}
 use native.Mathlib.Omega.{arith}
 use lib.IntN.{pos, ℤ}
-use lib.ListN.{drop, drop_of_length-le, get_or, length, length-append, length-drop, length-map, length-replicate, length-set, length-take, replicate, set, take}
+use lib.ListN.{drop, drop_of_length-le, get_or, length, length-append, length-drop, length-map, length-take, replicate, set, take}
 use lib.Seq.{append_snoc, length-take-le, set_at, take-append-add, take-append-le}
 use Rattle.lists.specs.Lists.{concat_map, map_from, sum_n}
-use Rattle.lists.proofs.Lists.{concat_map_append, map_append, set-left, set_right}
+use Rattle.lists.proofs.Lists.{concat_map_append, map_append}
 use Rattle.spec.specs.Code.{InScale, as_record, domain_length, lengths}
 use Rattle.spec.specs.Domain.{domain}
 use Rattle.spec.specs.Kind.{Kind, kind_of}
@@ -24,7 +24,6 @@ use Rattle.compose.specs.declared.places.Span.{Span}
 use Rattle.compose.proofs.Packed.{length_spans}
 use Rattle.compose.proofs.Allowed.{allowed_le}
 use Rattle.compose.proofs.Positions.{groups-done, groups_loop}
-use Rattle.compose.specs.Tuples.{padded}
 
 -- ---- a field where it lies
 abbrev pub field_at : List ℕ → ℕ → ℕ → FieldSpec

@@ -12,8 +12,8 @@ ghost use Rattle.registry.specs.Index.{Indexed};
 ghost use Rattle.compose.specs.Maps.{allowed, narrow_by};
 ghost use Rattle.compose.specs.Code.{constraints_in, fields_in, FieldIn, FieldsIn, HeadsIn, is_ascending, kept_by, list_places, lists_by, narrows_kind, packed_lists, span_of};
 
-use crate::places::Span;
 use crate::finding::{is_ascending, next_item};
+use crate::places::Span;
 use registry::check::meets;
 use registry::sorting::{finds_p, index_run};
 use spec::domains::{domain_len, domain_value, part};
