@@ -1,26 +1,28 @@
 -- The kept maps, found from the front.
 use mathlib.Core.Bool.{Bool, false, true}
 use mathlib.Core.List.{List, foldl, map}
-use mathlib.Core.Option.{Option, none}
+use mathlib.Core.Option.{Option, some}
 use mathlib.Core.Path.{◌∙◌, ◌≡◌, ap, refl, subst, sym}
 use Prim.Native.Nat.{◌+◌, ◌-◌, ◌<◌, ◌≤◌, suc, ℕ}
 use native.Mathlib.Decide.{ℕ_discrete}
 use native.Mathlib.Numerals.{add-one}
 use native.Mathlib.Omega.{arith}
-use lib.Dec.{eqb, ltb}
+use lib.Dec.{eqb}
 use lib.ListN.{drop, get_or, get_or-replicate, length, length-set, replicate, set, take}
 use lib.Seq.{get_or-set_other, get_or-set_same}
 use Rattle.lists.specs.Lists.{upto}
 use Rattle.lists.proofs.All.{upto-All}
 use Rattle.lists.proofs.Lists.{map_ext}
-use Rattle.lists.proofs.Range.{in_range}
-use Rattle.lists.proofs.Tests.{eqb_no, eqb_yes, ltb_yes, no_ge, yes_lt}
-use Rattle.spec.specs.Kind.{ConstraintKind, Kind, bitmask, constraint, cross, enable_mask, enable_set, eq, even, field, ge, gt, kind_of, le, lt, member, neq, oneof, projector, range, unknown}
+use Rattle.lists.proofs.Tests.{eqb_no, eqb_yes}
+use Rattle.spec.specs.Kind.{ConstraintKind, Kind, bitmask, constraint, cross, enable_mask, enable_set, eq, even, field, ge, gt, le, lt, member, neq, oneof, projector, range, unknown}
 use Rattle.spec.specs.Record.{Record, constraint_by, constraint_in, constraint_of, entry_of, record_at, records_of}
-use Rattle.spec.proofs.Fields.{kind_of_lem}
 use Rattle.registry.specs.Code.{HeadIn}
-use Rattle.compose.specs.Maps.{KeptMap, keep_by, kept_map, replace_if}
-use Rattle.compose.specs.Code.{MapIn, MapsIn, constraints_in, map_by, map_in}
+use Rattle.std.specs.Prelude.{None, Some}
+use Rattle.spec.specs.Code.{as_kind}
+use Rattle.spec.specs.declared.kinds.Kind as code
+use Rattle.spec.specs.declared.kinds.Kind.TheVariants as kinds
+use Rattle.compose.specs.Maps.{KeptMap, keep_by, kept, kept_map, replace_if}
+use Rattle.compose.specs.Code.{CodeMap, MapIn, MapsIn, MaybeMap, constraints_in, map_by, map_in}
 use Rattle.compose.proofs.Positions.{fold_end, fold_turn}
 
 -- ---- by kind
@@ -74,76 +76,54 @@ module _ (f : ℕ) (h : Record) (ms : List Record) (m : Option KeptMap) where
   keep-kind (projector k) = refl
   keep-kind (member k) = refl
 
--- Only kind number 19 is a cross.
-cross_kind : is_cross (kind_of 19) ≡ true
-unfolding kind_of
-cross_kind = refl
-
-other_kind : (n : ℕ) → n < 256 → ¬ (n ≡ 19) → is_cross (kind_of n) ≡ false
-unfolding kind_of
-other_kind n l h = go (ltb n 19) refl
-  where
-    go : (b : Bool) → ltb n 19 ≡ b → is_cross (kind_of n) ≡ false
-    go true e = let q = yes_lt n 19 e in in_range (λ k. is_cross (kind_of k)) (λ k. false) 0 19 refl n (omega arith) (omega arith)
-    go false e = let q = no_ge n 19 e in in_range (λ k. is_cross (kind_of k)) (λ k. false) 20 236 refl n (omega arith) (omega arith)
-
--- ---- the array
-module _ (maps : List ℕ) (b a from to : ℕ) (wide : length maps ≡ 96) (small : b < 32) where
-  abbrev written : List ℕ
-  written = set (set (set maps b a) (32 + b) from) (64 + b) to
-
-  length_written : length written ≡ 96
-  length_written = length-set (set (set maps b a) (32 + b) from) (64 + b) to ∙ length-set (set maps b a) (32 + b) from ∙ length-set maps b a ∙ wide
-
-  parent_written : get_or written b 0 ≡ a
-  parent_written = get_or-set_other (set (set maps b a) (32 + b) from) (64 + b) b to 0 (omega arith) ∙ get_or-set_other (set maps b a) (32 + b) b from 0 (omega arith) ∙ get_or-set_same maps b a 0 (omega arith)
-
-  from_written : get_or written (32 + b) 0 ≡ from
-  from_written = get_or-set_other (set (set maps b a) (32 + b) from) (64 + b) (32 + b) to 0 (omega arith) ∙ get_or-set_same (set maps b a) (32 + b) from 0 (omega (arith, length-set maps b a))
-
-  to_written : get_or written (64 + b) 0 ≡ to
-  to_written = get_or-set_same (set (set maps b a) (32 + b) from) (64 + b) to 0 (omega (arith, length-set (set maps b a) (32 + b) from, length-set maps b a))
-
-  other_written : (g : ℕ) → ¬ (g ≡ b) → ¬ (g ≡ 32 + b) → ¬ (g ≡ 64 + b) → get_or written g 0 ≡ get_or maps g 0
-  other_written g x y z = get_or-set_other (set (set maps b a) (32 + b) from) (64 + b) g to 0 z ∙ get_or-set_other (set maps b a) (32 + b) g from 0 y ∙ get_or-set_other maps b g a 0 x
-
--- Two arrays that hold the same of field f.
-record Same (maps' maps : List ℕ) (f : ℕ) : Type 0 where
-  parent_is : get_or maps' f 0 ≡ get_or maps f 0
-  from_is : get_or maps' (32 + f) 0 ≡ get_or maps (32 + f) 0
-  to_is : get_or maps' (64 + f) 0 ≡ get_or maps (64 + f) 0
-
-same_map : (file maps' maps : List ℕ) (f : ℕ) → Same maps' maps f → map_in file maps' f ≡ map_in file maps f
-same_map file maps' maps f e = rw (e.parent_is, e.from_is, e.to_is)
-
-same_in : (file maps' maps : List ℕ) (n f : ℕ) → Same maps' maps f → MapIn file maps n f → MapIn file maps' n f
-same_in file maps' maps n f e m = record { parent = rw e.parent_is m.parent; from = rw (e.parent_is, e.from_is, e.to_is) m.from; to = rw (e.parent_is, e.to_is) m.to }
+-- No other kind is a cross.
+other_kind : (k : code.Kind) → (k ≡ kinds.Cross → ⊥) → is_cross (as_kind k) ≡ false
+other_kind kinds.Field h = refl
+other_kind kinds.Value h = refl
+other_kind kinds.Item h = refl
+other_kind kinds.Pair h = refl
+other_kind kinds.Key h = refl
+other_kind kinds.Disable h = refl
+other_kind kinds.Assign h = refl
+other_kind kinds.Axis h = refl
+other_kind kinds.Range h = refl
+other_kind kinds.Even h = refl
+other_kind kinds.Eq h = refl
+other_kind kinds.Neq h = refl
+other_kind kinds.Lt h = refl
+other_kind kinds.Gt h = refl
+other_kind kinds.Le h = refl
+other_kind kinds.Ge h = refl
+other_kind kinds.Oneof h = refl
+other_kind kinds.EnableMask h = refl
+other_kind kinds.Bitmask h = refl
+other_kind kinds.EnableSet h = refl
+other_kind kinds.Sum h = refl
+other_kind kinds.Identity h = refl
+other_kind kinds.Parity h = refl
+other_kind kinds.Decompose h = refl
+other_kind kinds.Cross h = absurd (h refl)
+other_kind (kinds.Unknown n) h = refl
 
 -- ---- the maps kept so far, with the constraints from number k − 1 on, make the kept maps
-pub record Kept (file heads : List ℕ) (n : ℕ) (maps : List ℕ) (k : ℕ) : Type 0 where
+pub record Kept (file heads : List ℕ) (n : ℕ) (maps : List MaybeMap) (k : ℕ) : Type 0 where
   pub first : 1 ≤ k
-  pub wide : length maps ≡ 96
+  pub wide : length maps ≡ 32
   pub inside : MapsIn file maps n
   pub whole : (f : ℕ) → f < 32 → foldl (keep_by f) (map_in file maps f) (constraints_in file (drop (k - 1) heads)) ≡ kept_map (constraints_in file heads) f
 
-abbrev no_maps : List ℕ
-no_maps = replicate 96 32
-
-pub kept-none : (file heads : List ℕ) (n : ℕ) → Kept file heads n no_maps 1
+pub kept-none : (file heads : List ℕ) (n : ℕ) → Kept file heads n (replicate 32 None) 1
 kept-none file heads n = record {
   first = omega arith;
   wide = refl;
-  inside = λ f h. let e = none_at f h in record { parent = λ l. absurd (omega arith); from = λ l. absurd (omega arith); to = λ l. absurd (omega arith) };
-  whole = λ f h. ap (λ m. foldl (keep_by f) m (constraints_in file heads)) (no_map f h);
+  inside = λ f h m e. let z : None ≡ Some m = sym (none_at f h) ∙ e in cc;
+  whole = λ f h. ap (λ o. foldl (keep_by f) (map_by file o) (constraints_in file heads)) (none_at f h);
 }
   where
-    none_at : (f : ℕ) → f < 32 → get_or no_maps f 0 ≡ 32
-    none_at f h = get_or-replicate {A = ℕ} 96 f 32 0 (omega arith)
+    none_at : (f : ℕ) → f < 32 → get_or (replicate {A = MaybeMap} 32 None) f None ≡ None
+    none_at f h = get_or-replicate {A = MaybeMap} 32 f None None h
 
-    no_map : (f : ℕ) → f < 32 → map_in file no_maps f ≡ none
-    no_map f h = ap (λ (p : ℕ). map_by (ltb p 32) p file (get_or no_maps (32 + f) 0) (get_or no_maps (64 + f) 0)) (none_at f h)
-
-module _ (file heads : List ℕ) (n : ℕ) (maps : List ℕ) (k : ℕ) (m : Kept file heads n maps k) where
+module _ (file heads : List ℕ) (n : ℕ) (maps : List MaybeMap) (k : ℕ) (m : Kept file heads n maps k) where
   module _ (l : k < length heads) where
     abbrev head : ℕ
     head = get_or heads (k - 1) 0
@@ -155,70 +135,58 @@ module _ (file heads : List ℕ) (n : ℕ) (maps : List ℕ) (k : ℕ) (m : Kept
     members = take (end - suc head) (drop (suc head) (records_of file))
 
     -- a turn leaves of each map what the constraint leaves
-    turn : (maps' : List ℕ) (b : Bool) → is_cross (record_at file head).kind ≡ b → (f : ℕ) → f < 32 → map_in file maps' f ≡ cross_if b f (record_at file head) members (map_in file maps f)
+    turn : (maps' : List MaybeMap) (b : Bool) → is_cross (record_at file head).kind ≡ b → (f : ℕ) → f < 32 → map_in file maps' f ≡ cross_if b f (record_at file head) members (map_in file maps f)
         → foldl (keep_by f) (map_in file maps' f) (constraints_in file (drop (k + 1 - 1) heads)) ≡ kept_map (constraints_in file heads) f
     turn maps' b t f h e =
         ap (λ o. foldl (keep_by f) o (constraints_in file (drop (k + 1 - 1) heads))) (e ∙ ap (λ (c : Bool). cross_if c f (record_at file head) members (map_in file maps f)) (sym t) ∙ sym (keep-kind f (record_at file head) members (map_in file maps f) (record_at file head).kind))
         ∙ sym (fold_turn (keep_by f) constraint_of file heads k m.first (map_in file maps f) l) ∙ m.whole f h
 
-    pub kept_other : (record_at file head).code < 256 → ¬ ((record_at file head).code ≡ 19) → Kept file heads n maps (k + 1)
-    kept_other small other = record {
+    pub kept_other : (kind : code.Kind) → as_kind kind ≡ (record_at file head).kind → (kind ≡ kinds.Cross → ⊥) → Kept file heads n maps (k + 1)
+    kept_other kind is other = record {
       first = omega arith;
       wide = m.wide;
       inside = m.inside;
-      whole = λ f h. turn maps false (ap is_cross (kind_of_lem file head) ∙ other_kind (record_at file head).code small other) f h refl;
+      whole = λ f h. turn maps false (ap is_cross (sym is) ∙ other_kind kind other) f h refl;
     }
 
     module _ (few : n ≤ 32) (is : HeadIn file head end n) (a b : ℕ) (a_is : a ≡ (record_at file head).a) (b_is : b ≡ (record_at file head).b) where
-      abbrev next : List ℕ
-      next = set (set (set maps b a) (32 + b) (head + 1)) (64 + b) end
+      abbrev new : CodeMap
+      new = record { parent = a; from = head + 1; to = end }
 
-      a_below : a < n
-      a_below = let q = is.a_below in omega arith
+      abbrev next : List MaybeMap
+      next = set maps b (Some new)
 
-      b_small : b < 32
-      b_small = let q = is.b-below in omega arith
+      b_small : b < length maps
+      b_small = let q = is.b-below in omega (arith, m.wide)
 
-      same : (f : ℕ) → f < 32 → ¬ (f ≡ b) → Same next maps f
-      same f h x =
-          let q = b_small in
-          record {
-            parent_is = other_written maps b a (head + 1) end m.wide q f x (omega arith) (omega arith);
-            from_is = other_written maps b a (head + 1) end m.wide q (32 + f) (omega arith) (omega arith) (omega arith);
-            to_is = other_written maps b a (head + 1) end m.wide q (64 + f) (omega arith) (omega arith) (omega arith);
-          }
+      new_at : get_or next b None ≡ Some new
+      new_at = get_or-set_same maps b (Some new) None b_small
 
-      here : map_in file next b ≡ replace_if true a (map entry_of members) none
-      here = rw (parent_written maps b a (head + 1) end m.wide b_small, from_written maps b a (head + 1) end m.wide b_small, to_written maps b a (head + 1) end m.wide b_small) (rw (ltb_yes a 32 (let q = a_below in omega arith), add-one head))
+      old_at : (f : ℕ) → ¬ (f ≡ b) → get_or next f None ≡ get_or maps f None
+      old_at f x = get_or-set_other maps b f (Some new) None x
 
-      here_in : MapIn file next n b
-      here_in =
-          let p = parent_written maps b a (head + 1) end m.wide b_small in
-          let s = from_written maps b a (head + 1) end m.wide b_small in
-          let t = to_written maps b a (head + 1) end m.wide b_small in
-          let q = a_below in
-          let u = is.before in
-          let v = is.inside in
-          record { parent = λ w. omega arith; from = λ w. omega arith; to = λ w. omega arith }
+      new_in : MapIn file n new
+      new_in = let u = is.before in let v = is.inside in let q = is.a_below in record { parent = omega arith; from = omega arith; to = omega arith }
 
-      pub kept_cross : (record_at file head).code ≡ 19 → Kept file heads n next (k + 1)
+      pub kept_cross : (record_at file head).kind ≡ as_kind kinds.Cross → Kept file heads n next (k + 1)
       kept_cross is-cross = record {
         first = omega arith;
-        wide = length_written maps b a (head + 1) end m.wide b_small;
-        inside = λ f h. in_next f h (ℕ_discrete f b);
-        whole = λ f h. turn next true (ap is_cross (kind_of_lem file head ∙ ap kind_of is-cross) ∙ cross_kind) f h (map_next f h (ℕ_discrete f b));
+        wide = length-set maps b (Some new) ∙ m.wide;
+        inside = λ f h p e. in_next f h p e (ℕ_discrete f b);
+        whole = λ f h. turn next true (ap is_cross is-cross) f h (map_next f h (ℕ_discrete f b));
       }
         where
-          in_next : (f : ℕ) → f < 32 → Dec (f ≡ b) → MapIn file next n f
-          in_next f h (yes e) = subst (λ (g : ℕ). MapIn file next n g) (sym e) here_in
-          in_next f h (no x) = same_in file next maps n f (same f h x) (m.inside f h)
+          in_next : (f : ℕ) → f < 32 → (p : CodeMap) → get_or next f None ≡ Some p → Dec (f ≡ b) → MapIn file n p
+          in_next f h p e (yes x) = let z : Some new ≡ Some p = sym new_at ∙ ap (λ (g : ℕ). get_or next g None) (sym x) ∙ e in let w : new ≡ p = cc in subst (MapIn file n) w new_in
+          in_next f h p e (no x) = m.inside f h p (sym (old_at f x) ∙ e)
 
           map_next : (f : ℕ) → f < 32 → Dec (f ≡ b) → map_in file next f ≡ replace_if (eqb (record_at file head).b f) (record_at file head).a (map entry_of members) (map_in file maps f)
           map_next f h (yes e) =
-              ap (λ (g : ℕ). map_in file next g) e ∙ here ∙ ap (λ (p : ℕ). replace_if true p (map entry_of members) (map_in file maps f)) a_is
+              ap (λ (g : ℕ). map_in file next g) e ∙ ap (map_by file) new_at ∙ ap (λ (j : ℕ). some (kept a (map entry_of (take (end - j) (drop j (records_of file)))))) (add-one head)
+              ∙ ap (λ (p : ℕ). some (kept p (map entry_of members))) a_is
               ∙ ap (λ (c : Bool). replace_if c (record_at file head).a (map entry_of members) (map_in file maps f)) (sym (eqb_yes (record_at file head).b f (sym (e ∙ b_is))))
           map_next f h (no x) =
-              same_map file next maps f (same f h x)
+              ap (map_by file) (old_at f x)
               ∙ ap (λ (c : Bool). replace_if c (record_at file head).a (map entry_of members) (map_in file maps f)) (sym (eqb_no (record_at file head).b f (λ e. x (sym e ∙ sym b_is))))
 
   pub kept_end : length heads ≤ k → map (map_in file maps) (upto 32) ≡ map (kept_map (constraints_in file heads)) (upto 32)

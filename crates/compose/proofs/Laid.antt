@@ -5,10 +5,10 @@ use Prim.Native.Nat.{◌+◌, ◌-◌, ◌/◌, ◌<◌, ◌≤◌, suc, ℕ}
 use native.Mathlib.Nat.{add-zero, zero-add}
 use native.Mathlib.Omega.{arith}
 use lib.IntN.{pos, ℤ}
-use lib.ListN.{drop, drop_of_length-le, get_or, length, length-append, length-drop, length-map, length-replicate, length-set, length-take, replicate, set, take}
+use lib.ListN.{drop, drop_of_length-le, get_or, length, length-append, length-drop, length-map, length-take, replicate, set, take}
 use lib.Seq.{append_snoc, length-take-le, set_at, take-append-add, take-append-le}
 use Rattle.lists.specs.Lists.{concat_map, map_from, sum_n}
-use Rattle.lists.proofs.Lists.{concat_map_append, map_append, set-left, set_right}
+use Rattle.lists.proofs.Lists.{concat_map_append, map_append}
 use Rattle.spec.specs.Code.{InScale, as_record, domain_length, lengths}
 use Rattle.spec.specs.Domain.{domain}
 use Rattle.spec.specs.Kind.{Kind, kind_of}
@@ -19,10 +19,11 @@ use Rattle.spec.proofs.Fields.{kind_of_lem, length_records}
 use Rattle.spec.proofs.Shapes.{field_kind, length-domain}
 use Rattle.registry.specs.Code.{group_in}
 use Rattle.compose.specs.Maps.{allowed}
-use Rattle.compose.specs.Code.{FieldIn, fields_in, list_places, lists_by, packed_lists, starts_from}
+use Rattle.compose.specs.Code.{FieldIn, fields_in, list_places, lists_by, packed_lists, span_of, spans_from}
+use Rattle.compose.specs.declared.places.Span.{Span}
+use Rattle.compose.proofs.Packed.{length_spans}
 use Rattle.compose.proofs.Allowed.{allowed_le}
 use Rattle.compose.proofs.Positions.{groups-done, groups_loop}
-use Rattle.compose.specs.Tuples.{padded}
 
 -- ---- a field where it lies
 abbrev pub field_at : List ℕ → ℕ → ℕ → FieldSpec
@@ -56,38 +57,27 @@ pub front_part : (r : ℕ) (new part rest : List ℤ) → r ≡ length new → t
 front_part r new part rest e t = take-append-le r part rest (omega (arith, ap length t, length-take r part)) ∙ t
 
 -- ---- where lists of given lengths lie, with one list more
-starts_more : (a : ℕ) (ns : List ℕ) (n : ℕ) → starts_from a (ns ++ (n ∷ [])) ≡ starts_from a ns ++ ((a + sum_n ns) ∷ [])
-starts_more a [] n = ap (λ (x : ℕ). x ∷ []) (sym (add-zero a))
-starts_more a (m ∷ ns) n =
+spans_more : (a : ℕ) (ns : List ℕ) (n : ℕ) → spans_from a (ns ++ (n ∷ [])) ≡ spans_from a ns ++ (span_of (a + sum_n ns) n ∷ [])
+spans_more a [] n = ap (λ (x : ℕ). span_of x n ∷ []) (sym (add-zero a))
+spans_more a (m ∷ ns) n =
     let e : a + m + sum_n ns ≡ a + (m + sum_n ns) = omega arith in
-    ap (λ (l : List ℕ). a ∷ l) (starts_more (a + m) ns n ∙ ap (λ (x : ℕ). starts_from (a + m) ns ++ (x ∷ [])) e)
+    ap (λ (l : List Span). span_of a m ∷ l) (spans_more (a + m) ns n ∙ ap (λ (x : ℕ). spans_from (a + m) ns ++ (span_of x n ∷ [])) e)
 
-length_starts : (a : ℕ) (ns : List ℕ) → length (starts_from a ns) ≡ length ns
-length_starts a [] = refl
-length_starts a (n ∷ ns) = ap suc (length_starts (a + n) ns)
-
-padded_more : (ns : List ℕ) (j x : ℕ) → length ns ≡ j → j < 32 → padded (ns ++ (x ∷ [])) ≡ set (padded ns) j x
-padded_more ns j x e h =
-    let m : 32 - length ns ≡ suc (32 - suc j) = omega arith in
-    let q : 32 - length (ns ++ (x ∷ [])) ≡ 32 - suc j = omega (arith, length-append ns (x ∷ [])) in
-    append_snoc ns x (replicate (32 - length (ns ++ (x ∷ []))) 0) ∙ ap (λ (k : ℕ). ns ++ (x ∷ replicate k 0)) q
-    ∙ sym (ap (λ (k : ℕ). set (ns ++ replicate k 0) j x) m ∙ set_at ns 0 (replicate (32 - suc j) 0) x j e)
-
-length-padded : (ns : List ℕ) → length ns ≤ 32 → length (padded ns) ≡ 32
-length-padded ns h = omega (arith, length-append ns (replicate (32 - length ns) 0), length-replicate {A = ℕ} (32 - length ns) 0)
-
-places_more : (ns : List ℕ) (j n : ℕ) → length ns ≡ j → j < 32 → list_places (ns ++ (n ∷ [])) ≡ set (set (list_places ns) j (sum_n ns)) (32 + j) n
+places_more : (ns : List ℕ) (j n : ℕ) → length ns ≡ j → j < 32 → list_places (ns ++ (n ∷ [])) ≡ set (list_places ns) j (span_of (sum_n ns) n)
 places_more ns j n e h =
-    let starts = starts_from 0 ns in
-    let long = length-padded starts (omega (arith, length_starts 0 ns)) in
-    ap₂ (λ (a b : List ℕ). a ++ b) (ap padded (starts_more 0 ns n) ∙ padded_more starts j (0 + sum_n ns) (length_starts 0 ns ∙ e) h ∙ ap (set (padded starts) j) (zero-add (sum_n ns))) (padded_more ns j n e h)
-    ∙ sym (ap (λ (l : List ℕ). set l (32 + j) n) (set-left (padded starts) (padded ns) (sum_n ns) j long h) ∙ set_right (set (padded starts) j (sum_n ns)) (padded ns) n j (length-set (padded starts) j (sum_n ns) ∙ long))
+    let spans = spans_from 0 ns in
+    let new = span_of (sum_n ns) n in
+    let m : 32 - length ns ≡ suc (32 - suc j) = omega arith in
+    let q : 32 - length (ns ++ (n ∷ [])) ≡ 32 - suc j = omega (arith, length-append ns (n ∷ [])) in
+    ap₂ (λ (l : List Span) (k : ℕ). l ++ replicate k (span_of 0 0)) (spans_more 0 ns n ∙ ap (λ (x : ℕ). spans ++ (span_of x n ∷ [])) (zero-add (sum_n ns))) q
+    ∙ append_snoc spans new (replicate (32 - suc j) (span_of 0 0))
+    ∙ sym (ap (λ (k : ℕ). set (spans ++ replicate k (span_of 0 0)) j new) m ∙ set_at spans (span_of 0 0) (replicate (32 - suc j) (span_of 0 0)) new j (length_spans 0 ns ∙ e))
 
 -- ---- the lists of the first k − 1 fields are laid, and end before `at`
 abbrev joined : List (List ℤ) → List ℤ
 joined ls = concat_map (λ l. l) ls
 
-pub record Laid (file fields : List ℕ) (cs : List ConstraintSpec) (size : ℕ) (scratch : List ℤ) (places : List ℕ) (at k : ℕ) : Type 0 where
+pub record Laid (file fields : List ℕ) (cs : List ConstraintSpec) (size : ℕ) (scratch : List ℤ) (places : List Span) (at k : ℕ) : Type 0 where
   pub done : List (List ℤ)
   pub first : 1 ≤ k
   pub counted : length done ≡ k - 1
@@ -112,7 +102,7 @@ sum_append : (a b : List ℕ) → sum_n (a ++ b) ≡ sum_n a + sum_n b
 sum_append [] b = sym (zero-add (sum_n b))
 sum_append (x ∷ a) b = let e = sum_append a b in omega arith
 
-module _ (file fields : List ℕ) (cs : List ConstraintSpec) (size : ℕ) (scratch : List ℤ) (places : List ℕ) (at k : ℕ) (m : Laid file fields cs size scratch places at k) where
+module _ (file fields : List ℕ) (cs : List ConstraintSpec) (size : ℕ) (scratch : List ℤ) (places : List Span) (at k : ℕ) (m : Laid file fields cs size scratch places at k) where
   pub laid_inside : at ≤ length scratch
   laid_inside = let r = m.room in let n = m.long in omega arith
 
@@ -154,14 +144,13 @@ module _ (file fields : List ℕ) (cs : List ConstraintSpec) (size : ℕ) (scrat
       r_is : r ≡ length new
       r_is = count ∙ ap length new_is
 
-      pub laid_turn : Laid file fields cs size (take at scratch ++ (part ++ rest)) (set (set places (k - 1) at) (31 + k) r) (at + r) (k + 1)
+      pub laid_turn : Laid file fields cs size (take at scratch ++ (part ++ rest)) (set places (k - 1) (span_of at r)) (at + r) (k + 1)
       laid_turn =
           let ls = m.done in
           let f = m.first in
           let n = m.counted in
           let z = m.room in
           let next : suc (k - 1) ≡ k + 1 - 1 = omega arith in
-          let place : 32 + (k - 1) ≡ 31 + k = omega arith in
           let lens : length (map length ls) ≡ k - 1 = length-map ls length ∙ m.counted in
           let q = room_left in
           let fits = allowed_le cs (k - 1) here in
@@ -180,7 +169,7 @@ module _ (file fields : List ℕ) (cs : List ConstraintSpec) (size : ℕ) (scrat
                 ∙ ap₂ (λ (a b : List ℤ). a ++ b) m.front (front_part r new part rest r_is (front ∙ new_is)) ∙ sym (joined_more ls new);
             ends = ap₂ (λ (a b : ℕ). a + b) m.ends r_is ∙ sym (ap length (joined_more ls new) ∙ length-append (joined ls) new);
             room = omega (arith, r_is);
-            places-are = ap₂ (λ (p : List ℕ) (a : ℕ). set (set p (k - 1) a) (31 + k) r) m.places-are (m.ends ∙ length_joined ls) ∙ ap₂ (λ (j n : ℕ). set (set (list_places (map length ls)) (k - 1) (sum_n (map length ls))) j n) (sym place) r_is
+            places-are = ap₂ (λ (p : List Span) (a : ℕ). set p (k - 1) (span_of a r)) m.places-are (m.ends ∙ length_joined ls) ∙ ap (λ (n : ℕ). set (list_places (map length ls)) (k - 1) (span_of (sum_n (map length ls)) n)) r_is
                 ∙ sym (ap list_places (map_append length ls (new ∷ [])) ∙ places_more (map length ls) (k - 1) (length new) lens most);
           }
 

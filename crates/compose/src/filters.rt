@@ -8,10 +8,11 @@ ghost use Rattle.spec.specs.Domain.{domain};
 ghost use Rattle.spec.specs.Record.{constraint_of, field_by, field_of, records_of};
 ghost use Rattle.registry.specs.Code.{group_in, HeadIn};
 ghost use Rattle.compose.specs.Maps.{allowed, narrow_by};
-ghost use Rattle.compose.specs.Code.{Answers, constraints_in, fields_in, FieldIn, FieldsIn, HeadsIn, is_ascending, list_places, lists_by, packed_lists};
+ghost use Rattle.compose.specs.Code.{Answers, constraints_in, fields_in, FieldIn, FieldsIn, HeadsIn, is_ascending, list_places, lists_by, packed_lists, span_of};
 
 use crate::finding::{is_ascending, next_item};
 use crate::members::{INDEXED, ROOM, indexed};
+use crate::places::Span;
 use registry::check::meets;
 use registry::sorting::IndexedRun;
 use spec::domains::{domain_len, domain_value, has_p, part};
@@ -148,15 +149,15 @@ fn lay_list(
     narrow_all(file, heads, f, &mut list[..len])
 }
 
-// Lays the lists of the fields one behind the other, by the constraints given, and zeros to the end. In lists: where list f starts at f, its length at 32 + f.
+// Lays the lists of the fields one behind the other, by the constraints given, and zeros to the end. In lists, where that of each field lies.
 pub(crate) fn lay_lists(
     file: &[u8],
     fields: &[usize],
     constraints: &[usize],
     scratch: &mut [i64],
-    lists: &mut [usize],
+    lists: &mut [Span],
 )
-    requires { (length fields.now ≤ 33) × FieldsIn file.now fields.now × HeadsIn file.now constraints.now 32 × (sum_n (map (λ d. length (domain d)) (fields_in file.now fields.now)) ≤ length scratch.old) × (lists.old ≡ replicate 64 0) }
+    requires { (length fields.now ≤ 33) × FieldsIn file.now fields.now × HeadsIn file.now constraints.now 32 × (sum_n (map (λ d. length (domain d)) (fields_in file.now fields.now)) ≤ length scratch.old) × (lists.old ≡ replicate 32 (span_of 0 0)) }
     ensures scratch { scratch.new ≡ packed_lists (lists_by (constraints_in file.now constraints.now) (fields_in file.now fields.now)) (length scratch.old) }
     ensures lists { lists.new ≡ list_places (map length (lists_by (constraints_in file.now constraints.now) (fields_in file.now fields.now))) }
 {
@@ -170,8 +171,7 @@ pub(crate) fn lay_lists(
             k - 1,
             &mut scratch[at..],
         );
-        lists[k - 1] = at;
-        lists[31 + k] = len;
+        lists[k - 1] = Span { start: at, len };
         at += len;
     }
     clear(&mut scratch[at..]);

@@ -1,9 +1,9 @@
 -- `compose::filters::lay_lists` meets its contract. The invariant: the lists of the first k - 1 fields are laid, and there is room for the rest.
 use mathlib.Core.Path.{◌∙◌}
-use Prim.Native.Nat.{◌+◌, ◌-◌}
+use Prim.Native.Nat.{◌-◌}
 use native.Mathlib.Omega.{arith}
 use borrow.Rule.Slice.PartMut.{same_len_mid}
-use lib.ListN.{drop, length, length-set, set}
+use lib.ListN.{drop, length, length-set}
 use Rattle.compose.specs.Code.{FieldIn, constraints_in}
 use Rattle.compose.proofs.Laid.{laid_places, laid_room, laid_scratch, laid_turn}
 use Rattle.compose.proofs.Positions.{head_turn_lem}
@@ -24,7 +24,7 @@ loop-k-preserved c =
     let turn = laid_turn c.args.file.now c.args.fields.now (constraints_in c.args.file.now c.args.constraints.now) (length c.args.scratch.now) l.scratch l.lists l.at l.k l.invariant.0 c.loop-k-test.true (head_turn_lem (FieldIn c.args.file.now) c.args.fields.now l.k c.requires.1 l.invariant.0.first c.loop-k-test.true) (omega arith)
     y.result part (drop n (drop l.at l.scratch)) y.ensures.count y.ensures.front (same_len_mid l.at n l.scratch part y.auto.list ∙ l.invariant.0.long)
     in
-    (turn, length-set (set l.lists (l.k - 1) l.at) (31 + l.k) y.result ∙ length-set l.lists (l.k - 1) l.at ∙ l.invariant.1)
+    (turn, length-set l.lists (l.k - 1) _ ∙ l.invariant.1)
 
 pub returns : goal.returns
 returns c =

@@ -7,4 +7,4 @@ use Rattle.compose.proofs.Laid.{Laid}
 use Rattle.compose.proofs.filters.lay_lists.Given as goal
 
 abbrev pub invariant-loop-k : goal.invariant-loop-k
-invariant-loop-k l = Laid l.file l.fields (constraints_in l.file l.constraints) (length l.initial.scratch) l.scratch l.lists l.at l.k × (length l.lists ≡ 64)
+invariant-loop-k l = Laid l.file l.fields (constraints_in l.file l.constraints) (length l.initial.scratch) l.scratch l.lists l.at l.k × (length l.lists ≡ 32)

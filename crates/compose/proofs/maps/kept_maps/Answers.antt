@@ -1,28 +1,31 @@
 -- `compose::maps::kept_maps` meets its contract. The invariant: the maps kept so far, with the constraints left, make the kept maps.
 use mathlib.Core.List.{List}
-use mathlib.Core.Path.{◌∙◌, subst, sym}
-use Prim.Native.Nat.{◌-◌, ℕ}
+use mathlib.Core.Path.{◌∙◌, ◌≡◌, ap, subst, sym}
+use Prim.Native.Nat.{◌-◌}
 use native.Mathlib.Omega.{arith}
 use lib.ListN.{get_or}
+use borrow.Author.Rules.{rules}
+use Rattle.spec.specs.Code.{as_kind}
+use Rattle.spec.specs.declared.kinds.Kind.TheVariants as kinds
 use Rattle.registry.specs.Code.{HeadIn}
+use Rattle.compose.specs.Code.{MaybeMap}
 use Rattle.compose.proofs.Kept.{Kept, kept_cross, kept_end, kept-none, kept_other}
 use Rattle.compose.proofs.Positions.{head_turn_lem}
-use Rattle.compose.proofs.maps.kept_maps.Goals.{else-code_at-eq19, then-code_at-eq19}
+use Rattle.compose.proofs.maps.kept_maps.Goals.{else-eq, then-eq}
 use Rattle.compose.proofs.maps.kept_maps.Goals as goal
 
 pub loop-k-init : goal.loop-k-init
-loop-k-init c = subst (λ (maps : List ℕ). Kept c.args.file.now c.args.heads.now c.args.n maps 1) (sym c.requires.2) (kept-none c.args.file.now c.args.heads.now c.args.n)
+loop-k-init c = subst (λ (maps : List MaybeMap). Kept c.args.file.now c.args.heads.now c.args.n maps 1) (sym c.requires.2) (kept-none c.args.file.now c.args.heads.now c.args.n)
 
 pub loop-k-preserved : goal.loop-k-preserved
 loop-k-preserved c =
     let l = c.loop-k in
-    let code = c.code_at in
     let head : HeadIn c.args.file.now (get_or c.args.heads.now (l.k - 1) 0) (get_or c.args.heads.now l.k 0) c.args.n =
     head_turn_lem (λ head end. HeadIn c.args.file.now head end c.args.n) c.args.heads.now l.k c.requires.1 l.invariant.first (omega arith)
     in
-    elim c.if-code_at-eq19.branch [
-      | then-code_at-eq19 u ↦ rw u.maps-is (kept_cross c.args.file.now c.args.heads.now c.args.n l.maps l.k l.invariant (omega arith) c.requires.0 head u.a_at.result u.b_at-f.result u.a_at.ensures.0 u.b_at-f.ensures.0 (sym code.ensures ∙ u.if-code_at-eq19.true))
-      | else-code_at-eq19 u ↦ rw u.maps-is (kept_other c.args.file.now c.args.heads.now c.args.n l.maps l.k l.invariant (omega arith) (let e = code.ensures in omega arith) (λ e. u.if-code_at-eq19.false (code.ensures ∙ e)))
+    elim c.if-eq.branch [
+      | then-eq u ↦ let e : c.kind_at.result ≡ kinds.Cross = search rules in rw u.maps-is (kept_cross c.args.file.now c.args.heads.now c.args.n l.maps l.k l.invariant (omega arith) c.requires.0 head u.a_at.result u.b_at-f.result u.a_at.ensures.0 u.b_at-f.ensures.0 (sym c.kind_at.ensures.kind ∙ ap as_kind e))
+      | else-eq u ↦ let e : c.kind_at.result ≡ kinds.Cross → ⊥ = search rules in rw u.maps-is (kept_other c.args.file.now c.args.heads.now c.args.n l.maps l.k l.invariant (omega arith) c.kind_at.result c.kind_at.ensures.kind e)
     ]
 
 pub returns : goal.returns

@@ -1,11 +1,6 @@
 -- `compose::maps::kept_maps` meets its contract. The invariant: the maps kept so far, with the constraints left, make the kept maps.
-use Prim.Native.Nat.{◌-◌}
-use lib.ListN.{length}
 use Rattle.compose.proofs.Kept.{Kept}
 use Rattle.compose.proofs.maps.kept_maps.Given as goal
 
 abbrev pub invariant-loop-k : goal.invariant-loop-k
 invariant-loop-k l = Kept l.file l.heads l.n l.maps l.k
-
-abbrev pub decreases-loop-k : goal.decreases-loop-k
-decreases-loop-k l = length l.heads - l.k
