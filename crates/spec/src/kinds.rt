@@ -37,6 +37,7 @@ pub enum Kind {
 impl From<u8> for Kind {
     ghost from_gives = { λ code kind. (as_kind kind ≡ kind_of code) × (kind_number kind ≡ code) };
 
+    #[tactic(auto, unfolding(crate::specs::Kind::kind_of))]
     fn from(code: u8) -> Kind {
         match code {
             0 => Kind::Unknown(0),
