@@ -11,4 +11,5 @@ pub mod Looked
 pub mod Halves
 pub mod Alike
 pub mod Tried
+pub mod Keys
 pub mod Permuted

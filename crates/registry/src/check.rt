@@ -1,6 +1,6 @@
 // The check of a constraint on a row of values: one decision over all kinds.
 ghost use Rattle.std.specs.Prelude.{◌≡◌, ◌≢◌, true, map, suc, ◌+◌, ◌-◌, ◌/◌, ◌≤◌, ◌<◌, drop, eqb, get_or, length, take, MatchOption};
-ghost use Rattle.lists.specs.Integers.{elem_z, eq_z};
+ghost use Rattle.lists.specs.Integers.{elem_z};
 ghost use Rattle.lists.specs.Lists.{all, any};
 ghost use Rattle.spec.specs.Code.{as_kind, ps_of};
 ghost use Rattle.spec.specs.Record.{records_of, record_at, entry_of, constraint_of};
@@ -36,29 +36,13 @@ pub fn meets(kind: Kind, p: i64, q: i64, run: &[u8], v: Value) -> bool
     }
 }
 
-// The p of record i is the value.
-pub(crate) fn has_p_at(run: &[u8], i: usize, v: Value) -> bool
-    requires { i < length run.now / 32 }
-    ensures { result ≡ eq_z v.0 (record_at run.now i).p }
-{
-    p_at(run, i) == v.0
-}
-
-// The q of record i is the value.
-pub(crate) fn has_q_at(run: &[u8], i: usize, w: Value) -> bool
-    requires { i < length run.now / 32 }
-    ensures { result ≡ eq_z w.0 (record_at run.now i).q }
-{
-    q_at(run, i) == w.0
-}
-
 // Record i is the pair of v and w.
 pub(crate) fn is_pair_at(run: &[u8], i: usize, v: Value, w: Value) -> bool
     requires { i < length run.now / 32 }
     ensures { result ≡ is_pair v.0 w.0 (entry_of (record_at run.now i)) }
 {
     match kind_at(run, i) {
-        Kind::Pair => has_p_at(run, i, v) & has_q_at(run, i, w),
+        Kind::Pair => (p_at(run, i) == v.0) & (q_at(run, i) == w.0),
         _ => false,
     }
 }
@@ -86,14 +70,10 @@ fn crosses(run: &[u8], v: Value, w: Value) -> bool
 pub fn is_indexed(index: &[usize], head: usize, end: usize) -> bool
     ensures { result ≡ eqb (get_or index.now head 0) (4096 + end) }
 {
-    if index.len() <= head {
-        return false;
+    match index.get(head) {
+        Some(mark) => mark.checked_sub(MARK) == Some(end),
+        None => false,
     }
-    let mark = index[head];
-    if mark < MARK {
-        return false;
-    }
-    mark - MARK == end
 }
 
 // The members of the head at a record, with their index if they have one.

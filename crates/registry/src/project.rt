@@ -14,7 +14,7 @@ use spec::numbers::Value;
 use spec::records::{a_at, b_at, kind_at, p_at, q_at};
 
 // A projection is below this.
-const TOP: u64 = 0x8000_0000_0000_0000;
+const TOP: u64 = 1 << 63;
 
 fn sum(row: &[i64]) -> i64
     requires { RowIn row.now }
@@ -59,14 +59,14 @@ fn add_raised(word: u64, v: u64, k: usize) -> Option<u64>
 fn digit(radix: u64, rest: u64) -> u64
     ensures { result ≡ digit_of radix rest }
 {
-    if radix == 0 { rest } else { rest % radix }
+    rest.checked_rem(radix).unwrap_or(rest)
 }
 
 // What it leaves to the next; an axis without radix divides nothing off.
 fn quotient(radix: u64, rest: u64) -> u64
     ensures { result ≡ rest_of radix rest }
 {
-    if radix == 0 { rest } else { rest / radix }
+    rest.checked_div(radix).unwrap_or(rest)
 }
 
 // The digits of v by the axes, each times 2^shift, added to the word so far.

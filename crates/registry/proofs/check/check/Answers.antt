@@ -1,5 +1,5 @@
 -- `registry::check::check` meets its contract; what `search` leaves of it.
-use Rattle.std.proofs.Common.{◌∙◌, ◌≡◌, ap, ap₂, sym, pos, get_or, suc, take, drop, map, ◌-◌, rules, ℤ}
+use Rattle.std.proofs.Common.{◌∙◌, ◌≡◌, ap, ap₂, pos, get_or, suc, take, drop, map, ◌-◌, rules}
 use Rattle.spec.proofs.Multiples.{held}
 use Rattle.spec.specs.Record.{entry_of, record_at, records_of}
 use Rattle.registry.specs.Check.{cross_allows, value_at}

@@ -1,5 +1,5 @@
 -- `registry::check::indexed_at` meets its contract: what the index says of a head that is marked.
-use Rattle.std.proofs.Common.{◌∙◌, ◌≡◌, ◌+◌, ◌-◌, ap, sym, subst, suc, ℕ, take, drop}
+use Rattle.std.proofs.Common.{◌∙◌, ◌-◌, sym, subst, ℕ, take, drop}
 use native.Mathlib.Numerals.{add-one}
 use Rattle.lists.proofs.Tests.{yes_eq}
 use Rattle.registry.specs.Index.{Indexed, IndexedAt}

@@ -1,5 +1,5 @@
 -- `registry::project::project` meets its contract; what `search` leaves of it: the projector and its axes as they were read.
-use Rattle.std.proofs.Common.{◌∙◌, ◌≡◌, ap, ap₂, sym, subst, ◌+◌, ◌-◌, ◌/◌, suc, ℕ, ℤ, pos, ◌-ℤ◌, List, map, get_or, length, take, drop, true, arith}
+use Rattle.std.proofs.Common.{◌∙◌, ◌≡◌, ap, ap₂, sym, subst, ◌-◌, ◌/◌, suc, ℕ, ℤ, pos, ◌-ℤ◌, List, map, get_or, length, take, drop, true, arith}
 use native.Mathlib.Numerals.{add-one}
 use borrow.Author.Rules.{sfits_of}
 use lib.ListN.{length-drop}

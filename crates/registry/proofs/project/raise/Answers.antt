@@ -1,5 +1,5 @@
 -- `registry::project::raise` meets its contract: v × 2^k is below 2^63 exactly where v is below 2^63 shifted down by k.
-use Rattle.std.proofs.Common.{◌∙◌, ap, ◌*◌, ◌%◌, ◌^◌}
+use Rattle.std.proofs.Common.{◌∙◌, ap, ◌*◌, ◌^◌}
 use Rattle.std.specs.Prelude.{Some}
 use Rattle.registry.proofs.Digits.{raised_below, raised_over, word_no, word_yes, held_raised}
 use Rattle.registry.proofs.project.raise.Goals as goal

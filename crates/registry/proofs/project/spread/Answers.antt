@@ -1,5 +1,5 @@
 -- `registry::project::spread` meets its contract. The invariant: the word and the axes left give what the start and all axes give.
-use Rattle.std.proofs.Common.{◌∙◌, ◌≡◌, sym, ap, ap₂, ◌+◌, ◌*◌, ◌^◌, ◌/◌, ◌<◌, ◌≤◌, ℕ, ℤ, List, map, drop, length, pos, arith, rules}
+use Rattle.std.proofs.Common.{◌∙◌, ◌≡◌, sym, ap, ap₂, ◌+◌, ◌*◌, ◌^◌, ◌<◌, ◌≤◌, ℕ, map, drop, pos}
 use mathlib.Core.Option.{some}
 use lib.IntN.{nat_abs}
 use mir.Syntax.{w64}

@@ -1,12 +1,12 @@
 -- `registry::project::sum` meets its contract.
-use Rattle.std.proofs.Common.{◌∙◌, ◌≡◌, sym, ◌+◌, ◌*◌, ◌^◌, ◌≤◌, pos, ℤ, ◌+ℤ◌, to_z, of_z, get_or, List, arith}
+use Rattle.std.proofs.Common.{◌∙◌, ◌≡◌, ◌+◌, ◌*◌, ◌^◌, ◌≤◌, pos, ℤ, ◌+ℤ◌, to_z, get_or, List, arith}
 use lib.IntN.{nat_abs}
 use mir.Syntax.{w64}
 use mir.Val.{SFits}
 use mir.ValLaws.{to_z-of_z}
 use Rattle.lists.proofs.All.{All_at}
 use Rattle.spec.proofs.Multiples.{held, scale_bound}
-use Rattle.registry.proofs.Scale.{small_fits, sum_bound, sum_end, sum_more}
+use Rattle.registry.proofs.Scale.{small_fits, sum_bound, sum_more}
 use Rattle.registry.proofs.project.sum.Goals.{After-total-1}
 use Rattle.registry.proofs.project.sum.Goals as goal
 
