@@ -16,9 +16,9 @@ module _ (c : Joined-else-value-raw) where
 
   passes : allowed c.args.raw.now ≡ true → allowed c.args.row.now ≡ true
   passes raw = elim c.else-value-raw.branch [
-      | else-value-raw-via-then-value-raw+else-not-is_allowed w ↦ let e : allowed c.args.row.now ≡ w.is_allowed.result = search rules in e ∙ w.if-not-is_allowed.false
-      | else-value-raw-via-else-value-raw w ↦ let e : get_or c.args.row.now c.loop-f.f (pos 0) ≡ get_or c.args.raw.now c.loop-f.f (pos 0) = search rules in rw e raw
-    ]
+    | else-value-raw-via-then-value-raw+else-not-is_allowed w ↦ let e : allowed c.args.row.now ≡ w.is_allowed.result = search rules in e ∙ w.if-not-is_allowed.false
+    | else-value-raw-via-else-value-raw w ↦ let e : get_or c.args.row.now c.loop-f.f (pos 0) ≡ get_or c.args.raw.now c.loop-f.f (pos 0) = search rules in rw e raw
+  ]
 
 pub loop-f-preserved : goal.loop-f-preserved
 loop-f-preserved c =
