@@ -96,12 +96,12 @@ number-zero fields constraints len all room e =
     go false p false false false q e = (no_ge 32 fields (or_split (ltb 32 fields) (ltb 256 constraints) p).0, no_ge room len q)
 
 module _ (room : ℕ) (f g : List ℕ) where
-  pub fault_first : (r : Refused) → file_fault f ≡ some r → join_fault room f g ≡ some (refusal_of first r.number r.at)
+  pub fault_first : (r : JoinRefused) → of first (file_fault f) ≡ some r → join_fault room f g ≡ some r
   unfolding join_fault
   fault_first r e = rw e
 
   module _ (a : file_fault f ≡ none) where
-    pub fault_second : (r : Refused) → file_fault g ≡ some r → join_fault room f g ≡ some (refusal_of second r.number r.at)
+    pub fault_second : (r : JoinRefused) → of second (file_fault g) ≡ some r → join_fault room f g ≡ some r
     unfolding join_fault
     fault_second r e = rw (a, e)
 

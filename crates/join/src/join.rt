@@ -1,6 +1,6 @@
 // Two files as one: first's fields, second's renumbered, constraints likewise, one sum.
-ghost use Rattle.std.specs.Prelude.{◌≡◌, ◌+◌, ◌-◌, ◌*◌, ◌/◌, ◌≤◌, ◌<◌, length};
-ghost use Rattle.std.proofs.Math.Option.{none};
+ghost use Rattle.std.specs.Prelude.{◌≡◌, ◌+◌, ◌-◌, ◌*◌, ◌/◌, ◌≤◌, ◌<◌, length, MatchResult};
+ghost use Rattle.std.proofs.Math.Option.{none, some};
 ghost use Rattle.spec.specs.Code.{as_refused, as_shape};
 ghost use Rattle.spec.specs.Refusal.{file_fault, refuse};
 ghost use Rattle.spec.specs.Shape.{shape_of};
@@ -43,6 +43,16 @@ impl Which {
         ensures { as_join_refused result ≡ record { which = as_which self; why = as_refused why } }
     {
         JoinRefusal { which: self, why }
+    }
+
+    // What validate says of the file.
+    fn validate(self, file: &[u8]) -> Result<Shape, JoinRefusal>
+        ensures { MatchResult result (λ s. (file_fault file.now ≡ none) × (as_shape s ≡ shape_of file.now)) (λ r. of (as_which self) (file_fault file.now) ≡ some (as_join_refused r)) }
+    {
+        match validate(file) {
+            Ok(shape) => Ok(shape),
+            Err(why) => Err(self.refused(why)),
+        }
     }
 }
 
@@ -176,7 +186,7 @@ pub fn join(first: &[u8], second: &[u8], out: &mut [u8]) -> Result<usize, JoinRe
     ensures answer { as_joined result ≡ join_answer (length out.old) first.now second.now }
     ensures out { out.new ≡ join_output first.now second.now out.old }
 {
-    let s = validate(first).map_err(|why| Which::First.refused(why))?;
-    let t = validate(second).map_err(|why| Which::Second.refused(why))?;
+    let s = Which::First.validate(first)?;
+    let t = Which::Second.validate(second)?;
     join_accepted(first, second, s, t, out)
 }
