@@ -35,7 +35,7 @@ fn multiples(p: i64, q: i64, r: i64) -> Rise
     requires { InScale p q r }
     ensures { IsRise result (step_of (nat_abs r)) p q }
 {
-    let step = if r == 0 { 1 } else { r };
+    let step = r.max(1);
     let first = first_multiple(step, p);
     if q < first {
         return Rise {
