@@ -1,21 +1,13 @@
 -- The turns of a loop that looks for a record.
-use mathlib.Core.Bool.{Bool, ◌||◌, false, true, true≢false}
+use mathlib.Core.Bool.{Bool, false, true}
 use mathlib.Core.List.{List}
-use mathlib.Core.Path.{◌∙◌, ◌≡◌, ap, refl, sym}
-use Prim.Native.Nat.{◌+◌, ◌-◌, ◌/◌, ◌<◌, ◌^◌, ◌≤◌, suc, zero, ℕ}
+use mathlib.Core.Path.{◌≡◌}
+use Prim.Native.Nat.{◌+◌, ◌/◌, ◌<◌, ◌≤◌, ℕ}
 use native.Mathlib.Numerals.{add-one}
 use native.Mathlib.Omega.{arith}
-use lib.Dec.{T, leb, ltb}
-use lib.IntN.{◌-ℤ◌, nat_abs, negsuc, pos, ℤ}
 use lib.ListN.{drop, drop_of_length-le, length}
-use lib.Signed.{lt_z, non_neg}
-use mir.Syntax.{w64}
-use mir.Val.{SFits, of_z}
 use Rattle.lists.specs.Lists.{any}
-use Rattle.lists.proofs.Tests.{eqb_no, ltb_no, no_ge, or_split, yes_lt}
-use Rattle.spec.specs.Code.{reaches_over}
 use Rattle.spec.specs.Record.{Record, record_at, records_of}
-use Rattle.spec.specs.Refusal.{bad_offset, bad_radix}
 use Rattle.spec.proofs.Fields.{length_records, records_from}
 
 module _ (p : Record → Bool) (file : List ℕ) where

@@ -1,26 +1,21 @@
 -- The code's arithmetic on steps and ranges.
-use mathlib.Core.Bool.{Bool, false, false≢true, true, true≢false}
-use mathlib.Core.List.{List}
-use mathlib.Core.Logic.{◌⊎◌, inl, inr}
-use mathlib.Core.Path.{◌∙◌, ◌≡◌, ap, refl}
+use mathlib.Core.Bool.{false, true, true≢false}
+use mathlib.Core.Path.{◌≡◌, refl}
 use Prim.Native.Nat.{◌*◌, ◌+◌, ◌-◌, ◌/◌, ◌<◌, ◌^◌, ◌≤◌, suc, zero, ℕ}
 use native.Mathlib.Nat.{div-le_self, div-mul-le_self}
 use native.Mathlib.Numerals.{add-one}
 use native.Mathlib.Omega.{arith}
-use lib.Dec.{T, eqb, ltb}
-use lib.IntN.{ -ℤ_one, ◌*ℤ◌, ◌+ℤ◌, ◌-ℤ◌, nat_abs, negsuc, neg_ℤ, pos, ℤ}
-use lib.Signed.{le_z, lt_z, non_neg, quot_z, rem_z}
+use lib.Dec.{T}
+use lib.IntN.{◌-ℤ◌, nat_abs, negsuc, pos, ℤ}
+use lib.Signed.{le_z, lt_z, non_neg, quot_z}
 use mir.Syntax.{w64}
-use mir.Val.{Fits, SFits, of_z, sel, to_z}
+use mir.Val.{Fits, SFits, of_z, to_z}
 use mir.ValLaws.{to_z-of_z, to_z_pos}
-use borrow.Author.Rules.{sfits_of}
 use Rattle.std.specs.Int.{int_max}
-use Rattle.lists.specs.Integers.{elem_z}
-use Rattle.lists.proofs.Signed.{apart_bound, lt_nle, natural_apart, neg_abs, neg_mag, neg_mul, nlt_le, quot_fits, rem_none}
+use Rattle.lists.proofs.Signed.{apart_bound, lt_nle, natural_apart, neg_abs, nlt_le}
 use Rattle.lists.proofs.Tests.{ltb_yes, yes_le}
 use Rattle.spec.specs.Code.{InScale}
-use Rattle.spec.specs.Domain.{allows, first_multiple, how_many, on_step, step_of}
-use Rattle.spec.specs.Record.{Record, field_by}
+use Rattle.spec.specs.Domain.{first_multiple, how_many, step_of}
 use Rattle.spec.specs.Refusal.{negative, on_scale}
 
 -- A signed local holds bits: what is read back.

@@ -1,7 +1,7 @@
 -- `spec::domains::multiples` meets its contract. Every number is within ±2^57, so nothing is lost.
-use Rattle.std.proofs.Common.{rules, ◌≡◌, ◌∙◌, ap, w64, SFits, to_z-of_z, pos, nat_abs, sym}
+use Rattle.std.proofs.Common.{rules, ◌≡◌, ◌∙◌, w64, SFits, to_z-of_z, pos, nat_abs}
 use Rattle.spec.specs.Domain.{first_multiple, step_of}
-use Rattle.spec.proofs.Multiples.{Counted, count_none, counted_in, held, step_max}
+use Rattle.spec.proofs.Multiples.{count_none, counted_in, held, step_max}
 use Rattle.spec.proofs.domains.multiples.Goals.{After-first_multiple-first}
 use Rattle.spec.proofs.domains.multiples.Goals as goal
 
