@@ -1,11 +1,12 @@
 -- The turns of a loop that looks for a record.
-use mathlib.Core.Bool.{Bool, false, true}
+use mathlib.Core.Bool.{Bool, ◌||◌, false, true}
 use mathlib.Core.List.{List}
-use mathlib.Core.Path.{◌≡◌}
-use Prim.Native.Nat.{◌+◌, ◌/◌, ◌<◌, ◌≤◌, ℕ}
+use mathlib.Core.Path.{◌∙◌, ◌≡◌, ap, sym}
+use Prim.Native.Nat.{◌+◌, ◌/◌, ◌<◌, ◌≤◌, suc, zero, ℕ}
 use native.Mathlib.Numerals.{add-one}
 use native.Mathlib.Omega.{arith}
 use lib.ListN.{drop, drop_of_length-le, length}
+use Rattle.std.specs.List.{list_any, range_with_len}
 use Rattle.lists.specs.Lists.{any}
 use Rattle.spec.specs.Record.{Record, record_at, records_of}
 use Rattle.spec.proofs.Fields.{length_records, records_from}
@@ -23,3 +24,13 @@ module _ (p : Record → Bool) (file : List ℕ) where
 
   pub any_end : (i : ℕ) → length file / 32 ≤ i → any_from i ≡ false
   any_end i h = let e : length (records_of file) ≤ i = omega (arith, length_records file) in rw (drop_of_length-le (records_of file) e)
+
+  -- The same, asked of the record at each place.
+  any-places : (n i : ℕ) → i + n ≡ length file / 32 → list_any (λ (j : ℕ). p (record_at file j)) (range_with_len i n) ≡ any_from i
+  any-places zero i e = sym (any_end i (omega arith))
+  any-places (suc n) i e =
+      ap (λ (b : Bool). p (record_at file i) || b) (any-places n (i + 1) (omega arith) ∙ ap any_from (add-one i))
+      ∙ sym (ap (any p) (records_from file i (omega arith)))
+
+  pub any_place : list_any (λ (j : ℕ). p (record_at file j)) (range_with_len 0 (length file / 32)) ≡ any p (records_of file)
+  any_place = any-places (length file / 32) 0 (omega arith)
