@@ -1,5 +1,5 @@
 -- `spec::axes::reaches_over` meets its contract: `any` asks the record at each place.
-use Rattle.std.proofs.Common.{rules, tests, ◌≡◌, ◌∙◌, refl, ◌+◌, ◌/◌, ℕ, length}
+use Rattle.std.proofs.Common.{rules, tests, ◌∙◌, refl, ◌+◌, ◌/◌, ℕ, length}
 use native.Mathlib.Omega.{arith}
 use lib.Dec.{ltb}
 use Rattle.std.proofs.lemmas.Iterator.{YieldsList-from_range}
