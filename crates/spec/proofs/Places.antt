@@ -2,7 +2,7 @@
 use mathlib.Core.Bool.{Bool, cond, false, true}
 use mathlib.Core.List.{List, [], ◌∷◌}
 use mathlib.Core.Path.{◌∙◌, ◌≡◌, ap, refl, sym}
-use Prim.Native.Nat.{◌*◌, ◌+◌, ◌/◌, ◌<◌, ◌^◌, ◌≤◌, suc, zero, ℕ}
+use Prim.Native.Nat.{◌*◌, ◌+◌, ◌/◌, ◌<◌, ◌≤◌, suc, zero, ℕ}
 use native.Mathlib.Nat.{le-div_iff_mul-le, mul_comm, mul-zero, suc-mul}
 use native.Mathlib.Omega.{arith}
 use lib.Dec.{eqb}
@@ -19,7 +19,7 @@ use Rattle.spec.specs.Domain.{domain, first_multiple, how_many, multiples, progr
 use Rattle.spec.specs.Record.{Record, field_by, record_at, records_of}
 use Rattle.spec.specs.Refusal.{on_scale}
 use Rattle.spec.proofs.Fields.{length_records, record_get_d}
-use Rattle.spec.proofs.Multiples.{first_bound, held, scale_bound}
+use Rattle.spec.proofs.Multiples.{first_bound, held, scale_bound, step_positive, step_small}
 use Rattle.spec.specs.declared.domains.Rise.{Rise}
 
 progression_at : (k : ℕ) (a : ℤ) (n j : ℕ) → j < n → get_or (progression k a n) j (pos 0) ≡ a +ℤ pos (k * j)
@@ -43,15 +43,6 @@ steps_bound k first q j s l = go (le_z first q) l
 place_bound : (k j : ℕ) → 0 < k → j ≤ k * j
 place_bound zero j s = absurd (omega arith)
 place_bound (suc k) j s = omega (arith, suc-mul k j)
-
--- The step that a record on the scale takes.
-pub step_positive : (n : ℕ) → 0 < step_of n
-step_positive zero = omega arith
-step_positive (suc n) = omega arith
-
-step_small : (n : ℕ) → n ≤ 2 ^ 56 → step_of n ≤ 2 ^ 56
-step_small zero h = omega arith
-step_small (suc n) h = h
 
 module _ (d : Rise) (r p q : ℤ) (j : ℕ) (is : IsRise d (step_of (nat_abs r)) p q) (inside : j < how_many (step_of (nat_abs r)) (first_multiple (step_of (nat_abs r)) p) q) where
   abs_step : nat_abs d.step ≡ step_of (nat_abs r)

@@ -14,7 +14,7 @@ use Rattle.lists.specs.Lists.{concat_map, product}
 use Rattle.lists.proofs.All.{All, All_at, []ᴬ, ◌∷ᴬ◌}
 use Rattle.lists.proofs.Integers.{eq_z_eq}
 use Rattle.lists.proofs.Range.{in_range}
-use Rattle.lists.proofs.Tests.{eqb_no, leb_no, leb_yes, no_gt, or_split, yes_le}
+use Rattle.lists.proofs.Tests.{eqb_no, leb_no, no_gt, or_split, yes_le}
 use Rattle.spec.specs.Code.{InScale, capped, domain_length, length_by, lengths}
 use Rattle.spec.specs.Domain.{domain, step_of, total, zero_without}
 use Rattle.spec.specs.Kind.{Kind, constraint, field, field_row, is_field, is_member, kind_of, member, projector, unknown}
@@ -31,9 +31,6 @@ use Rattle.spec.proofs.Sections.{not_field}
 use Rattle.spec.proofs.Uses.{field_in_scale, not_off}
 
 -- ---- products that stop growing
-pub capped_within : (n : ℕ) → n ≤ 1000000000 → capped n ≡ n
-capped_within n h = rw (leb_yes n 1000000000 h)
-
 pub capped-above : (n : ℕ) → 1000000000 < n → capped n ≡ 1000000001
 capped-above n h = rw (leb_no n 1000000000 h)
 

