@@ -1,26 +1,24 @@
 -- Forcing: only enable records change a row, only those that are triggered, and never its length.
-use mathlib.Core.Bool.{Bool, ◌||◌, false, true}
+use mathlib.Core.Bool.{Bool, ◌||◌, false, false≢true, true}
 use mathlib.Core.List.{List, [], ◌++◌, ◌∷◌, foldl, foldl-append, map}
-use mathlib.Core.Logic.{◌⊎◌, inl, inr}
 use mathlib.Core.Path.{◌∙◌, ◌≡◌, ap, refl, subst, sym}
 use Prim.Native.Nat.{◌+◌, ◌-◌, ◌/◌, ◌<◌, ◌≤◌, suc, ℕ}
 use native.Mathlib.Numerals.{add-one}
 use native.Mathlib.Omega.{arith}
-use lib.Dec.{eqb}
 use lib.IntN.{ℤ}
 use lib.ListN.{drop, drop_of_length-le, get_or, length, length-set, set, take}
 use lib.Seq.{drop-cons}
 use Rattle.lists.specs.Integers.{eq_z}
 use Rattle.lists.specs.Lists.{cons_if, filter}
 use Rattle.lists.proofs.All.{All, All_at}
-use Rattle.lists.proofs.Tests.{or_split, or_true, yes_eq}
-use Rattle.spec.specs.Kind.{kind_of}
+use Rattle.lists.proofs.Tests.{or_split}
+use Rattle.spec.specs.Kind.{ConstraintKind, Kind, bitmask, constraint, cross, enable_mask, enable_set, eq, even, field, ge, gt, le, lt, member, neq, oneof, projector, range, unknown}
 use Rattle.spec.specs.Record.{Record, assignment_of, constraint_in, constraint_of, record_at, records_of}
 use Rattle.spec.specs.Spec.{Assign, Check, ConstraintSpec, Cross, Enable, Enabling, Eq, FieldAssignment, Neq, by_mask, by_set}
-use Rattle.spec.proofs.Fields.{kind_of_lem, length_records, record_get_d, records_from}
+use Rattle.spec.proofs.Fields.{length_records, record_get_d, records_from}
 use Rattle.registry.specs.Check.{value_at}
 use Rattle.registry.specs.Code.{group_in}
-use Rattle.compose.specs.Code.{chosen_in, enables_of, is_enable, is_forced, triggers}
+use Rattle.compose.specs.Code.{chosen_in, enables_of, is_enable, is_enabling, is_forced, triggers}
 use Rattle.compose.specs.Force.{force, force_by, forcing_order, write, write_if}
 use Rattle.compose.specs.Tuples.{Engine}
 
@@ -93,28 +91,37 @@ module _ (run : List ℕ) where
       subst (λ (m : Record). m.a < n) (record_get_d d run i l) (All_at d (records_of run) h i (let e = length_records run in omega arith))
 
 -- ---- an enable record, where it lies
-module _ (file : List ℕ) (head end : ℕ) (enable : (eqb (record_at file head).code 20 || eqb (record_at file head).code 22) ≡ true) (row : List ℤ) where
+module _ (file : List ℕ) (head end : ℕ) (enable : is_enabling (record_at file head).kind ≡ true) (row : List ℤ) where
   abbrev members : List Record
   members = take (end - suc head) (drop (suc head) (records_of file))
 
-  abbrev decoded_as : Enabling → Type 0
-  decoded_as e = constraint_of (group_in file head end) ≡ Enable e (record_at file head).a (record_at file head).p (map assignment_of members) ∷ []
+  abbrev decoded_as : Kind → Enabling → Type 0
+  decoded_as k e = constraint_in k (record_at file head) members ≡ Enable e (record_at file head).a (record_at file head).p (map assignment_of members) ∷ []
 
-  as_enable : (e : Enabling) × decoded_as e
-  as_enable = go (eqb (record_at file head).code 20) refl enable
-    where
-      kind_is : (n : ℕ) → eqb (record_at file head).code n ≡ true → constraint_of (group_in file head end) ≡ constraint_in (kind_of n) (record_at file head) members
-      kind_is n e = ap (λ k. constraint_in k (record_at file head) members) (kind_of_lem file head ∙ ap kind_of (yes_eq (record_at file head).code n e))
+  by_constraint : (k : ConstraintKind) → is_enabling (constraint k) ≡ true → (e : Enabling) × decoded_as (constraint k) e
+  by_constraint range h = absurd (false≢true h)
+  by_constraint even h = absurd (false≢true h)
+  by_constraint eq h = absurd (false≢true h)
+  by_constraint neq h = absurd (false≢true h)
+  by_constraint lt h = absurd (false≢true h)
+  by_constraint gt h = absurd (false≢true h)
+  by_constraint le h = absurd (false≢true h)
+  by_constraint ge h = absurd (false≢true h)
+  by_constraint oneof h = absurd (false≢true h)
+  by_constraint cross h = absurd (false≢true h)
+  by_constraint enable_mask h = (by_mask, refl)
+  by_constraint bitmask h = absurd (false≢true h)
+  by_constraint enable_set h = (by_set, refl)
 
-      mask : constraint_in (kind_of 20) (record_at file head) members ≡ Enable by_mask (record_at file head).a (record_at file head).p (map assignment_of members) ∷ []
-      mask = unfold kind_of in refl
+  by_kind : (k : Kind) → is_enabling k ≡ true → (e : Enabling) × decoded_as k e
+  by_kind field h = absurd (false≢true h)
+  by_kind unknown h = absurd (false≢true h)
+  by_kind (constraint k) h = by_constraint k h
+  by_kind (projector k) h = absurd (false≢true h)
+  by_kind (member k) h = absurd (false≢true h)
 
-      set_of : constraint_in (kind_of 22) (record_at file head) members ≡ Enable by_set (record_at file head).a (record_at file head).p (map assignment_of members) ∷ []
-      set_of = unfold kind_of in refl
-
-      go : (b : Bool) → eqb (record_at file head).code 20 ≡ b → (b || eqb (record_at file head).code 22) ≡ true → (e : Enabling) × decoded_as e
-      go true e h = (by_mask, kind_is 20 e ∙ mask)
-      go false e h = (by_set, kind_is 22 h ∙ set_of)
+  as_enable : (e : Enabling) × decoded_as (record_at file head).kind e
+  as_enable = by_kind (record_at file head).kind enable
 
   pub enable_no : eq_z (value_at row (record_at file head).a) (record_at file head).p ≡ false
       → (false ≡ is_forced (constraint_of (group_in file head end)) row) × (row ≡ foldl force_by row (constraint_of (group_in file head end)))
@@ -141,11 +148,10 @@ module _ (file heads chosen : List ℕ) (j : ℕ) where
   chosen_from h = ap (chosen_in file heads) (drop-cons chosen j 0 h)
 
   -- One more has forced: w is whether it wrote.
-  pub forced_turn : (row row' : List ℤ) (wrote w wrote' : Bool) → j < length chosen → w ≡ is_forced here row → row' ≡ foldl force_by row here
-      → ((w ≡ true) × (wrote' ≡ true)) ⊎ ((w ≡ false) × (wrote' ≡ wrote))
-      → ((wrote' || is_forced (chosen_in file heads (drop (j + 1) chosen)) row') ≡ (wrote || is_forced (chosen_in file heads (drop j chosen)) row))
+  pub forced_turn : (row row' : List ℤ) (wrote w : Bool) → j < length chosen → w ≡ is_forced here row → row' ≡ foldl force_by row here
+      → (((wrote || w) || is_forced (chosen_in file heads (drop (j + 1) chosen)) row') ≡ (wrote || is_forced (chosen_in file heads (drop j chosen)) row))
       × (foldl force_by row' (chosen_in file heads (drop (j + 1) chosen)) ≡ foldl force_by row (chosen_in file heads (drop j chosen)))
-  forced_turn row row' wrote w wrote' h e r came = rw (add-one j, chosen_from h, r) (came_to came, sym (foldl-append force_by row here rest))
+  forced_turn row row' wrote w h e r = rw (add-one j, chosen_from h, r) (came_to wrote, sym (foldl-append force_by row here rest))
     where
       rest : List ConstraintSpec
       rest = chosen_in file heads (drop (suc j) chosen)
@@ -153,9 +159,9 @@ module _ (file heads chosen : List ℕ) (j : ℕ) where
       after : List ℤ
       after = foldl force_by row here
 
-      came_to : ((w ≡ true) × (wrote' ≡ true)) ⊎ ((w ≡ false) × (wrote' ≡ wrote)) → (wrote' || is_forced rest after) ≡ (wrote || is_forced (here ++ rest) row)
-      came_to (inl (y, q)) = rw (q, forced_append here rest row, ← e, y) (sym (or_true wrote))
-      came_to (inr (y, q)) = rw (q, forced_append here rest row, ← e, y)
+      came_to : (b : Bool) → ((b || w) || is_forced rest after) ≡ (b || is_forced (here ++ rest) row)
+      came_to true = refl
+      came_to false = ap (λ x. x || is_forced rest after) e ∙ sym (forced_append here rest row)
 
   pub chosen_end : length chosen ≤ j → chosen_in file heads (drop j chosen) ≡ []
   chosen_end h = ap (chosen_in file heads) (drop_of_length-le chosen {i = j} h)

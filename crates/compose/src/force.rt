@@ -1,17 +1,19 @@
 // Forcing: when field a holds p, disable writes 0 and assign writes its value.
 ghost use Rattle.std.specs.Prelude.{◌≡◌, ◌+◌, ◌≤◌, ◌<◌, drop, length, take};
-ghost use mathlib.Core.List.{◌++◌, foldl, map};
-ghost use Rattle.lists.specs.Lists.{concat_map, count_if, filter};
+ghost use mathlib.Core.List.{foldl, map};
+ghost use Rattle.lists.specs.Lists.{count_if};
 ghost use Rattle.lists.proofs.All.{All};
+ghost use Rattle.spec.specs.Code.{as_kind};
 ghost use Rattle.spec.specs.Record.{assignment_of, constraint_of, records_of};
 ghost use Rattle.registry.specs.Code.{group_in};
 ghost use Rattle.compose.specs.Force.{force_by, write};
-ghost use Rattle.compose.specs.Code.{as_engine, chosen_in, code_is, constraints_in, enables_of, EnableIn, EnablesIn, groups_in, HeadsIn, is_forced, ChosenFrom};
+ghost use Rattle.compose.specs.Code.{as_engine, chosen_in, constraints_in, enables_of, EnableIn, EnablesIn, groups_in, has_kind, HeadsIn, is_enabling, is_forced, is_mask, is_set, ChosenFrom, KindTest, Taken, TestIs};
 
 use spec::domains::part;
-use spec::records::{a_at, code_at, p_at};
+use spec::kinds::Kind;
+use spec::records::{a_at, kind_at, p_at};
 
-#[derive(Clone, Copy)]
+#[derive(Clone, Copy, PartialEq, Eq)]
 pub enum Engine {
     Structural,
     Exhaustive,
@@ -22,12 +24,9 @@ fn write_members(run: &[u8], row: &mut [i64])
     requires { All (λ m. m.a < length row.old) (records_of run.now) }
     ensures { row.new ≡ foldl write row.old (map assignment_of (records_of run.now)) }
 {
-    let n = run.len() / 32;
-    let mut i = 0;
-    while i < n {
+    for i in 0..run.len() / 32 {
         let f = a_at(run, i);
         row[f] = p_at(run, i);
-        i += 1;
     }
 }
 
@@ -52,42 +51,49 @@ pub fn force(file: &[u8], heads: &[usize], chosen: &[u8], row: &mut [i64]) -> bo
     ensures row { row.new ≡ foldl force_by row.old (chosen_in file.now heads.now chosen.now) }
 {
     let mut wrote = false;
-    let mut j = 0;
-    while j < chosen.len() {
-        let k = chosen[j] as usize;
-        if force_by(file, heads[k], heads[k + 1], row) {
-            wrote = true;
-        }
-        j += 1;
+    for number in chosen {
+        let k = usize::from(*number);
+        wrote |= force_by(file, heads[k], heads[k + 1], row);
     }
     wrote
 }
 
-// Behind the first `before` numbers, writes those of the heads of kind a or b; how many numbers there are then.
-fn with_kinds(
+fn is_mask(kind: Kind) -> bool
+    ensures { result ≡ is_mask (as_kind kind) }
+{
+    kind == Kind::EnableMask
+}
+
+fn is_set(kind: Kind) -> bool
+    ensures { result ≡ is_set (as_kind kind) }
+{
+    kind == Kind::EnableSet
+}
+
+// Of an enable record.
+fn is_enabling(kind: Kind) -> bool
+    ensures { result ≡ is_enabling (as_kind kind) }
+{
+    is_mask(kind) | is_set(kind)
+}
+
+// Behind the first `before` numbers, writes those of the heads of the kinds chosen; how many numbers there are then.
+fn with_kinds<F: Fn(Kind) -> bool>(
     file: &[u8],
     heads: &[usize],
-    a: u8,
-    b: u8,
+    is_chosen: F,
     before: usize,
     numbers: &mut [u8],
 ) -> usize
-    requires { HeadsIn file.now heads.now 32 × (before + count_if (code_is a b) (groups_in file.now heads.now) ≤ length numbers.old) × (length heads.now ≤ 257) }
-    ensures count { result ≡ before + count_if (code_is a b) (groups_in file.now heads.now) }
-    ensures chosen { chosen_in file.now heads.now (take result numbers.new) ≡ chosen_in file.now heads.now (take before numbers.old) ++ concat_map constraint_of (filter (code_is a b) (groups_in file.now heads.now)) }
-    ensures kept { take before numbers.new ≡ take before numbers.old }
-    ensures kinds { ChosenFrom file.now heads.now before a b (take result numbers.new) }
-    ensures rest { drop result numbers.new ≡ drop result numbers.old }
+    requires { F.IsAlwaysCallable is_chosen × HeadsIn file.now heads.now 32 × (length heads.now ≤ 257) × ((test : KindTest) × TestIs (F.post is_chosen) test × (before + count_if (has_kind test) (groups_in file.now heads.now) ≤ length numbers.old)) }
+    ensures { (test : KindTest) → TestIs (F.post is_chosen) test → Taken file.now heads.now test before numbers.old result numbers.new }
 {
     let mut count = before;
-    let mut k = 1;
-    while k < heads.len() {
-        let code = code_at(file, heads[k - 1]);
-        if (code == a) | (code == b) {
+    for k in 1..heads.len() {
+        if is_chosen(kind_at(file, heads[k - 1])) {
             numbers[count] = (k - 1) as u8;
             count += 1;
         }
-        k += 1;
     }
     count
 }
@@ -96,14 +102,14 @@ fn with_kinds(
 pub fn enables_of(engine: Engine, file: &[u8], heads: &[usize], numbers: &mut [u8]) -> usize
     requires { HeadsIn file.now heads.now 32 × (length heads.now ≤ 257) × (length numbers.old ≡ 256) }
     ensures chosen { chosen_in file.now heads.now (take result numbers.new) ≡ enables_of (as_engine engine) (constraints_in file.now heads.now) }
-    ensures kinds { (result ≤ 256) × ChosenFrom file.now heads.now 0 20 22 (take result numbers.new) }
+    ensures kinds { (result ≤ 256) × ChosenFrom file.now heads.now 0 is_enabling (take result numbers.new) }
     ensures rest { drop result numbers.new ≡ drop result numbers.old }
 {
     match engine {
-        Engine::Structural => with_kinds(file, heads, 20, 22, 0, numbers),
+        Engine::Structural => with_kinds(file, heads, is_enabling, 0, numbers),
         Engine::Exhaustive => {
-            let masks = with_kinds(file, heads, 20, 20, 0, numbers);
-            with_kinds(file, heads, 22, 22, masks, numbers)
+            let masks = with_kinds(file, heads, is_mask, 0, numbers);
+            with_kinds(file, heads, is_set, masks, numbers)
         }
     }
 }

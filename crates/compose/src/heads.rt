@@ -19,13 +19,11 @@ pub fn heads_of(file: &[u8], at: &mut [usize]) -> usize
 {
     let n = file.len() / 32;
     let mut count = 0;
-    let mut i = 0;
-    while i < n {
+    for i in 0..n {
         if !is_member(code_at(file, i)) {
             at[count] = i;
             count += 1;
         }
-        i += 1;
     }
     at[count] = n;
     count

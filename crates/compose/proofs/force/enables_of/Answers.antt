@@ -4,9 +4,10 @@ use mathlib.Core.Path.{◌∙◌, ◌≡◌, ap, subst, sym}
 use Prim.Native.Nat.{◌+◌, ◌≤◌, ℕ}
 use native.Mathlib.Omega.{arith}
 use lib.ListN.{drop}
+use Rattle.std.proofs.Common.{of_calls}
 use Rattle.lists.specs.Lists.{concat_map, count_if, filter}
 use Rattle.spec.specs.Record.{constraint_of}
-use Rattle.compose.specs.Code.{code_is, groups_in}
+use Rattle.compose.specs.Code.{groups_in, has_kind, is_enabling, is_mask, is_set}
 use Rattle.compose.proofs.Chosen.{both_few, chosen_both, enables_exhaustive, enables_structural, kinds-few}
 use Rattle.compose.proofs.Narrowing.{rest_more}
 use Rattle.compose.proofs.force.enables_of.Goals.{After-with_kinds-masks}
@@ -14,21 +15,21 @@ use Rattle.compose.proofs.force.enables_of.Goals as goal
 
 pub with_kinds-requires : goal.with_kinds-requires
 with_kinds-requires c =
-    let n = kinds-few 20 22 c.args.file.now c.args.heads.now c.requires.1 in
+    let n = kinds-few is_enabling c.args.file.now c.args.heads.now c.requires.1 in
     let w = c.requires.2 in
-    (c.requires.0, omega arith, c.requires.1)
+    (search of_calls, c.requires.0, c.requires.1, (is_enabling, λ k r p. p.1, omega arith))
 
 pub with_kinds-masks-requires : goal.with_kinds-masks-requires
 with_kinds-masks-requires c =
-    let n = kinds-few 20 20 c.args.file.now c.args.heads.now c.requires.1 in
+    let n = kinds-few is_mask c.args.file.now c.args.heads.now c.requires.1 in
     let w = c.requires.2 in
-    (c.requires.0, omega arith, c.requires.1)
+    (search of_calls, c.requires.0, c.requires.1, (is_mask, λ k r p. p.1, omega arith))
 
 -- masks and sets fit
-room : (c : After-with_kinds-masks) → c.with_kinds-masks.result + count_if (code_is 22 22) (groups_in c.args.file.now c.args.heads.now) ≤ 256
+room : (c : After-with_kinds-masks) → c.with_kinds-masks.result + count_if (has_kind is_set) (groups_in c.args.file.now c.args.heads.now) ≤ 256
 room c =
     let n = both_few c.args.file.now c.args.heads.now c.requires.1 in
-    let m = c.with_kinds-masks.ensures.count in
+    let m = (c.with_kinds-masks.ensures is_mask (λ k r p. p.1)).counted in
     omega arith
 
 pub with_kinds-requires-in-Exhaustive : goal.with_kinds-requires-in-Exhaustive
@@ -36,28 +37,22 @@ with_kinds-requires-in-Exhaustive c =
     let n = room (goal.at.with_kinds-requires-in-Exhaustive c).After-with_kinds-masks in
     let w = c.requires.2 in
     let k = c.with_kinds-masks.auto.numbers in
-    (c.requires.0, omega arith, c.requires.1)
-
-pub shape_of-numbers-in-Structural : goal.shape_of-numbers-in-Structural
-shape_of-numbers-in-Structural c = c.with_kinds.auto.numbers
+    (search of_calls, c.requires.0, c.requires.1, (is_set, λ k r p. p.1, omega arith))
 
 pub returns-in-Structural : goal.returns-in-Structural
 returns-in-Structural c =
-    let e = c.with_kinds.ensures in
-    let n = kinds-few 20 22 c.args.file.now c.args.heads.now c.requires.1 in
-    let m = e.count in
+    let e = c.with_kinds.ensures is_enabling (λ k r p. p.1) in
+    let n = kinds-few is_enabling c.args.file.now c.args.heads.now c.requires.1 in
+    let m = e.counted in
     record { chosen = rw c.in-Structural.is (e.chosen ∙ enables_structural c.args.file.now c.args.heads.now); kinds = (omega arith, e.kinds); rest = e.rest }
-
-pub shape_of-numbers-in-Exhaustive : goal.shape_of-numbers-in-Exhaustive
-shape_of-numbers-in-Exhaustive c = c.with_kinds-in-Exhaustive.auto.numbers ∙ c.with_kinds-masks.auto.numbers
 
 pub returns-in-Exhaustive : goal.returns-in-Exhaustive
 returns-in-Exhaustive c =
     let first = c.with_kinds-masks in
     let then = c.with_kinds-in-Exhaustive in
-    let masks = first.ensures in
-    let e = then.ensures in
+    let masks = first.ensures is_mask (λ k r p. p.1) in
+    let e = then.ensures is_set (λ k r p. p.1) in
     let n = room (goal.at.returns-in-Exhaustive c).After-with_kinds-masks in
-    let m = e.count in
+    let m = e.counted in
     let numbers = first.new.numbers in
-    let sets = filter (code_is 22 22) (groups_in c.args.file.now c.args.heads.now) in record { chosen = rw c.in-Exhaustive.is (e.chosen ∙ ap (λ l. l ++ concat_map constraint_of sets) masks.chosen ∙ enables_exhaustive c.args.file.now c.args.heads.now); kinds = (omega arith, chosen_both c.args.file.now c.args.heads.now numbers then.new.numbers first.result then.result masks.kinds e.kept e.kinds); rest = e.rest ∙ subst (λ (k : ℕ). drop k numbers ≡ drop k c.args.numbers.now) (sym m) (rest_more c.args.numbers.now numbers first.result masks.rest _) }
+    let sets = filter (has_kind is_set) (groups_in c.args.file.now c.args.heads.now) in record { chosen = rw c.in-Exhaustive.is (e.chosen ∙ ap (λ l. l ++ concat_map constraint_of sets) masks.chosen ∙ enables_exhaustive c.args.file.now c.args.heads.now); kinds = (omega arith, chosen_both c.args.file.now c.args.heads.now numbers then.new.numbers first.result then.result masks.kinds e.kept e.kinds); rest = e.rest ∙ subst (λ (k : ℕ). drop k numbers ≡ drop k c.args.numbers.now) (sym m) (rest_more c.args.numbers.now numbers first.result masks.rest _) }

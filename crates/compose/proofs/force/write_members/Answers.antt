@@ -2,55 +2,29 @@
 use mathlib.Core.List.{foldl}
 use mathlib.Core.Path.{◌∙◌, ◌≡◌, ap, refl, sym}
 use native.Mathlib.Omega.{arith}
-use lib.ListN.{length, length-set}
+use borrow.Author.Rules.{sfits_of}
+use lib.ListN.{length}
 use mir.Syntax.{w64}
 use mir.Val.{of_z, to_z}
 use mir.ValLaws.{to_z-of_z}
-use borrow.Author.Rules.{sfits_of}
 use Rattle.spec.specs.Record.{record_at}
 use Rattle.compose.specs.Force.{write}
 use Rattle.compose.proofs.Forcing.{write-below, writes_end, writes_turn}
 use Rattle.compose.proofs.force.write_members.Goals as goal
 
 pub loop-i-init : goal.loop-i-init
-loop-i-init c = (omega arith, refl, refl)
-
-pub a_at-f-requires : goal.a_at-f-requires
-a_at-f-requires c = omega arith
-
-pub p_at-requires : goal.p_at-requires
-p_at-requires c = omega arith
-
-pub offset_bounds-row-f : goal.offset_bounds-row-f
-offset_bounds-row-f c = let b = c.a_at-f.ensures.1 in omega arith
+loop-i-init c = refl
 
 pub bounds-row-f : goal.bounds-row-f
-bounds-row-f c =
-    let l = c.loop-i in
-    let e = l.invariant.1 in
-    let b = write-below c.args.run.now (length c.args.row.now) l.i c.requires (omega arith) in
-    let a = c.a_at-f.ensures.0 in
-    omega arith
-
-pub overflow_add-i : goal.overflow_add-i
-overflow_add-i c = omega arith
-
-pub loop-i-smaller : goal.loop-i-smaller
-loop-i-smaller c = omega arith
+bounds-row-f c = let b = write-below c.args.run.now (length c.args.row.now) c.loop-i.i c.requires (omega arith) in let a = c.a_at-f.ensures.0 in omega arith
 
 pub loop-i-preserved : goal.loop-i-preserved
 loop-i-preserved c =
     let l = c.loop-i in
-    let p : to_z w64 (of_z w64 c.p_at.result) ≡ (record_at c.args.run.now l.i).p = to_z-of_z w64 c.p_at.result (sfits_of c.p_at.type_inv) ∙ c.p_at.ensures in (
-      omega arith,
-      length-set l.row c.a_at-f.result (to_z w64 (of_z w64 c.p_at.result)) ∙ l.invariant.1,
-      writes_turn c.args.run.now l.row l.i c.a_at-f.result (to_z w64 (of_z w64 c.p_at.result)) (omega arith) c.a_at-f.ensures.0 p ∙ l.invariant.2,
-    )
-
-pub shape_of-row : goal.shape_of-row
-shape_of-row c = c.loop-i.invariant.1
+    let p : to_z w64 (of_z w64 c.p_at.result) ≡ (record_at c.args.run.now l.i).p = to_z-of_z w64 c.p_at.result (sfits_of c.p_at.type_inv) ∙ c.p_at.ensures in
+    writes_turn c.args.run.now l.row l.i c.a_at-f.result (to_z w64 (of_z w64 c.p_at.result)) (omega arith) c.a_at-f.ensures.0 p ∙ l.invariant
 
 pub returns : goal.returns
 returns c =
     let l = c.loop-i in
-    ap (foldl write l.row) (sym (writes_end c.args.run.now l.i (omega arith))) ∙ l.invariant.2
+    ap (foldl write l.row) (sym (writes_end c.args.run.now l.i (omega arith))) ∙ l.invariant

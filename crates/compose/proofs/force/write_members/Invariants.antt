@@ -1,14 +1,9 @@
 -- `compose::force::write_members` meets its contract. The invariant: the members left, written to the row, give what all of them give.
 use mathlib.Core.List.{foldl}
 use mathlib.Core.Path.{◌≡◌}
-use Prim.Native.Nat.{◌-◌, ◌≤◌}
-use lib.ListN.{length}
 use Rattle.compose.specs.Force.{write}
 use Rattle.compose.proofs.Forcing.{writes_from}
 use Rattle.compose.proofs.force.write_members.Given as goal
 
 abbrev pub invariant-loop-i : goal.invariant-loop-i
-invariant-loop-i l = (l.i ≤ l.n) × (length l.row ≡ length l.initial.row) × (foldl write l.row (writes_from l.run l.i) ≡ foldl write l.initial.row (writes_from l.run 0))
-
-abbrev pub decreases-loop-i : goal.decreases-loop-i
-decreases-loop-i l = l.n - l.i
+invariant-loop-i l = foldl write l.row (writes_from l.run l.i) ≡ foldl write l.initial.row (writes_from l.run 0)
