@@ -74,8 +74,7 @@ fn compact_ascending(list: &mut [i64], items: IndexedRun) -> usize
 fn is_worth_index(items: usize, list: &[i64]) -> bool
     ensures { result ≡ true → items ≤ 2048 }
 {
-    items <= INDEXED
-        && ((32 < items) & (64 < list.len()) || 512 < list.len() && is_ascending(list))
+    items <= INDEXED && ((32 < items) & (64 < list.len()) || 512 < list.len() && is_ascending(list))
 }
 
 // Moves the values that are among the items to the front; how many they are.

@@ -12,6 +12,6 @@ mod ordering;
 pub mod places;
 pub mod plan;
 mod slots;
-mod values;
 pub mod steps;
 pub mod tables;
+mod values;
