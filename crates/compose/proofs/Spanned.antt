@@ -45,15 +45,6 @@ module _ (run places : List ℕ) (v : ℤ) (low high : ℕ) (s : Spans run place
   abbrev at : ℕ → Record
   at k = placed run places k
 
-  -- Those before are below (v, w), those after are not.
-  pub spans_bracket : (w : ℤ) → Bracket run places v w low high
-  spans_bracket w = record {
-    low_le = s.low_le;
-    high_le = s.high_le;
-    below = λ k l. ap (λ (b : Bool). b || (eq_z (at k).p v && lt_z (at k).q w)) (s.below k l);
-    rest = λ k l m. let r = apart v (at k).p (s.above k l m) in ap₂ (λ (a b : Bool). a || (b && lt_z (at k).q w)) r.0 r.1;
-  }
-
   before-span : (k : ℕ) → k < low → eq_z v (at k).p ≡ false
   before-span k l = (apart (at k).p v (s.below k l)).1
 

@@ -32,8 +32,8 @@ pub(crate) fn lay_domain(h: Record, values: &[u8], list: &mut [i64])
     requires { InScale h.p h.q h.r × (length list.old ≡ length (domain (field_by h.b (as_record h) (records_of values.now)))) }
     ensures { list.new ≡ domain (field_by h.b (as_record h) (records_of values.now)) }
 {
-    for i in 0..list.len() {
-        list[i] = domain_value(h, values, Index(i)).0;
+    for (i, v) in list.iter_mut().enumerate() {
+        *v = domain_value(h, values, Index(i)).0;
     }
 }
 
