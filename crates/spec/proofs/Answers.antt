@@ -1,9 +1,9 @@
 -- The answer of validate, case by case.
 use mathlib.Core.Bool.{Bool, cond, false, true}
 use mathlib.Core.List.{List}
-use mathlib.Core.Option.{none}
+use mathlib.Core.Option.{none, some}
 use mathlib.Core.Path.{◌≡◌, refl, sym}
-use Prim.Native.Nat.{◌<◌, ◌≤◌, suc, zero, ℕ}
+use Prim.Native.Nat.{◌<◌, ◌≤◌, ℕ}
 use native.Mathlib.Omega.{arith}
 use lib.Dec.{leb, ltb}
 use lib.ListN.{length}
@@ -11,7 +11,7 @@ use Rattle.lists.proofs.Tests.{ltb_no, ltb_yes, no_gt}
 use Rattle.spec.specs.Code.{capped}
 use Rattle.spec.specs.Domain.{too_many, total}
 use Rattle.spec.specs.Record.{decoded, records_of}
-use Rattle.spec.specs.Refusal.{accepted, answer, file_fault, ragged, records_fault, refuse, refused}
+use Rattle.spec.specs.Refusal.{Refused, accepted, answer, file_fault, ragged, records_fault, refused}
 use Rattle.spec.specs.Shape.{Shape, shape_of, stands_at}
 use Rattle.spec.specs.Spec.{Spec}
 
@@ -39,10 +39,9 @@ module _ (file : List ℕ) (s : Shape) where
   answer-ragged e = rw e
 
   module _ (whole : ragged file ≡ false) where
-    pub answer_fault : (n i : ℕ) → refuse n i ≡ records_fault (records_of file) → ¬ (n ≡ 0) → refused (record { number = n; at = i }) ≡ answer (file_fault file) s
+    pub answer_fault : (r : Refused) → some r ≡ records_fault (records_of file) → refused r ≡ answer (file_fault file) s
     unfolding file_fault
-    answer_fault zero i e h = absurd (h refl)
-    answer_fault (suc n) i e h = rw (whole, sym e)
+    answer_fault r e = rw (whole, sym e)
 
     pub answer_many : records_fault (records_of file) ≡ none → too_many (decoded file) ≡ true → refused (record { number = 10; at = 0 }) ≡ answer (file_fault file) s
     unfolding file_fault

@@ -58,9 +58,8 @@ module _ (file : List ℕ) (i : ℕ) where
   unfolding record_of
   r_of = word_of 24 (omega arith)
 
--- Two records are equal where their parts are.
-pub record_ext : {h k : Record} → h.code ≡ k.code → h.kind ≡ k.kind → h.a ≡ k.a → h.b ≡ k.b → h.padding ≡ k.padding → h.p ≡ k.p → h.q ≡ k.q → h.r ≡ k.r → h ≡ k
-record_ext code kind a b padding p q r = λ i. record { code = code i; kind = kind i; a = a i; b = b i; padding = padding i; p = p i; q = q i; r = r i }
+-- Where the parts of a record lie.
+pub ruleset parts = (code_of, kind_of_lem, a_of, b_of, p_of, q_of, r_of)
 
 -- ---- the records of a file
 chunk_drop : (n i : ℕ) (bytes : List ℕ) → i ≤ n → drop i (chunks n bytes) ≡ chunks (n - i) (drop (i * 32) bytes)

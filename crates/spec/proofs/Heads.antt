@@ -11,6 +11,7 @@ use lib.Seq.{drop-append-add, drop_at, drop-drop}
 use Rattle.lists.specs.Lists.{cons_if, filter}
 use Rattle.lists.proofs.All.{All, []ᴬ, ◌∷ᴬ◌}
 use Rattle.lists.proofs.Tests.{eqb_no, eqb_yes, ltb_no, ltb_yes, no_ge, or_split, yes_lt}
+use Rattle.spec.specs.Code.{section_at}
 use Rattle.spec.specs.Kind.{Kind, constraint, field, is_constraint, is_field, is_member, member, projector, section_of, unknown}
 use Rattle.spec.specs.Record.{Group, Record, group, groups, member_run, record_at, records_of, unless_member, while_member}
 use Rattle.spec.specs.Refusal.{Context, after_head, context, not_due, out_of_order, records_fault}
@@ -217,6 +218,30 @@ module _ (x : ℕ) (test : Kind → Bool) (agree : (k : Kind) → is_member k �
             counted = omega (arith, g.counted);
             stands = omega (arith, g.stands);
           }
+
+    -- where the code finds no record of the section
+    pub other_done : (i count : ℕ) → Gone i count → ¬ (section_at file i ≡ x) → Done i
+    other_done i count g n = go (ltb i (length file / 32)) refl
+      where
+        go : (b : Bool) → ltb i (length file / 32) ≡ b → Done i
+        go true e = stop-done i count g (yes_lt i (length file / 32) e) (λ q. n (ap (λ (b : Bool). cond b (section_of (record_at file i).kind) 3) e ∙ q))
+        go false e = end_done i (no_ge i (length file / 32) e)
+
+-- where it finds one
+pub section_here : (file : List ℕ) (i x : ℕ) → x < 3 → section_at file i ≡ x → (i < length file / 32) × (section_of (record_at file i).kind ≡ x)
+section_here file i x known = go (ltb i (length file / 32)) refl
+  where
+    go : (b : Bool) → ltb i (length file / 32) ≡ b → cond b (section_of (record_at file i).kind) 3 ≡ x → (i < length file / 32) × (section_of (record_at file i).kind ≡ x)
+    go true e s = (yes_lt i (length file / 32) e, s)
+    go false e s = absurd (omega arith)
+
+-- A head of the first section is a field.
+pub field_here : (k : Kind) → is_member k ≡ false → section_of k ≡ 0 → k ≡ field
+field_here field m e = refl
+field_here unknown m e = absurd (omega arith)
+field_here (constraint k) m e = absurd (omega arith)
+field_here (projector k) m e = absurd (omega arith)
+field_here (member k) m e = absurd (true≢false m)
 
 -- ---- where the sections begin
 -- What follows the fields.

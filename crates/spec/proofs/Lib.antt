@@ -20,5 +20,4 @@ pub mod Heads
 pub mod Shapes
 pub mod Answers
 pub mod Places
-pub mod Powers
 pub mod Numbered

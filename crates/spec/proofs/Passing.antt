@@ -1,6 +1,7 @@
 -- Members that are passed at once: a plain member belongs to its head and has no fault, so it leaves what there was to judge.
-use mathlib.Core.Bool.{Bool, ◌&&◌, ◌||◌, cond, false, true}
+use mathlib.Core.Bool.{Bool, ◌&&◌, ◌||◌, false, true}
 use mathlib.Core.List.{List}
+use mathlib.Core.Option.{none}
 use mathlib.Core.Path.{◌∙◌, ◌≡◌, ap, refl, subst, sym}
 use Prim.Native.Nat.{◌*◌, ◌+◌, ◌-◌, ◌/◌, ◌<◌, ◌≤◌, suc, zero, ℕ}
 use native.Mathlib.Nat.{add-zero}
@@ -10,11 +11,11 @@ use lib.IntN.{pos}
 use lib.ListN.{drop, length, take}
 use Rattle.lists.specs.Integers.{eq_z}
 use Rattle.lists.proofs.Integers.{eq_z_eq}
-use Rattle.lists.proofs.Tests.{and_split, eqb_yes, no_ge, or_false, yes_eq, yes_lt}
-use Rattle.spec.specs.Code.{InBytes, is_plain, lead_of, left_at, plain_kind, plain_lead}
+use Rattle.lists.proofs.Tests.{and_split, eqb_no, eqb_yes, no_ge, yes_eq, yes_lt}
+use Rattle.spec.specs.Code.{InBytes, is_plain, lead_of, left_at}
 use Rattle.spec.specs.Kind.{Kind, is_member, item, kind_of, member, pair, row_of, value}
 use Rattle.spec.specs.Record.{Record, record_at, records_of}
-use Rattle.spec.specs.Refusal.{first_true, member_tests, on_scale}
+use Rattle.spec.specs.Refusal.{first_true, member_tests, on_scale, refuse}
 use Rattle.spec.specs.declared.scan.State.{State}
 use Rattle.spec.proofs.Fields.{kind_of_lem}
 use Rattle.spec.proofs.Turns.{at_member}
@@ -33,12 +34,12 @@ record Plain (kind a : ℕ) (m : Record) : Type 0 where
   a_is : eqb m.a a ≡ true
   b_is : eqb m.b 0 ≡ true
   padding_is : eqb m.padding 0 ≡ true
-  q_is : (eq_z m.q (pos 0) || eqb kind 4) ≡ true
+  q_is : (eqb (kind + a * 0x100) 4 || eq_z m.q (pos 0)) ≡ true
   r_is : eq_z m.r (pos 0) ≡ true
   p_in : on_scale m.p ≡ true
   q_in : on_scale m.q ≡ true
 
-plain_of : (kind a : ℕ) (m : Record) → InBytes m → kind < 256 → a < 256 → is_plain kind (kind + a * 0x100) m ≡ true → Plain kind a m
+plain_of : (kind a : ℕ) (m : Record) → InBytes m → kind < 256 → a < 256 → is_plain (kind + a * 0x100) m ≡ true → Plain kind a m
 plain_of kind a m b k l e =
     let g = and_split _ (on_scale m.q) e in
     let f = and_split _ (on_scale m.p) g.0 in
@@ -50,78 +51,61 @@ plain_of kind a m b k l e =
     let padding_is : m.padding ≡ 0 = omega (arith, w, b.code-low, b.a-low, b.b-low) in
     record { code_is = omega (arith, w, b.code-low, b.a-low, b.b-low); a_is = eqb_yes m.a a a_is; b_is = eqb_yes m.b 0 b_is; padding_is = eqb_yes m.padding 0 padding_is; q_is = q.1; r_is = r.1; p_in = f.1; q_in = g.1 }
 
--- It belongs to a head of its list, and no test of a member is true.
-module _ (h m : Record) (read : m.kind ≡ kind_of m.code) (bytes : InBytes m) (due : h.a < 256) where
-  abbrev Passes : Kind → Type 0
-  Passes k = (is_member k ≡ true) × ((is_member k && eqb (row_of h.kind h.b).list (row_of k m.b).list) ≡ true) × ((n : ℕ) (before : List Record) → first_true 2 (member_tests k n h before m) ≡ 0)
+-- A member of a kind that belongs to head h and of which no test is true.
+abbrev Passes : Record → Record → Kind → Type 0
+Passes h m k = (is_member k ≡ true) × ((is_member k && eqb (row_of h.kind h.b).list (row_of k m.b).list) ≡ true) × ((n : ℕ) (before : List Record) → first_true 2 (member_tests k n h before m) ≡ 0)
 
-  r_in : {kind a : ℕ} → Plain kind a m → on_scale m.r ≡ true
-  r_in t = ap on_scale (eq_z_eq m.r (pos 0) t.r_is)
+-- Of a list, the plain members are those with these first bytes.
+abbrev pub PlainList : Record → ℕ → Type 0
+PlainList h lead = (m : Record) → m.kind ≡ kind_of m.code → InBytes m → is_plain lead m ≡ true → Passes h m m.kind
 
-  value_passes : eqb (row_of h.kind h.b).list 1 ≡ true → Plain 2 h.a m → Passes (member value)
-  value_passes e t = (refl, e, λ n before. rw (t.padding_is, t.a_is, t.b_is, sym (or_false (eq_z m.q (pos 0))) ∙ t.q_is, t.r_is, t.p_in, t.q_in, r_in t))
+module _ (h : Record) where
+  named : (m : Record) (k : Kind) → m.kind ≡ k → Passes h m k → Passes h m m.kind
+  named m k e p = subst (Passes h m) (sym e) p
 
-  item_passes : eqb (row_of h.kind h.b).list 18 ≡ true → Plain 3 0 m → Passes (member item)
-  item_passes e t = (refl, e, λ n before. rw (t.padding_is, t.a_is, t.b_is, sym (or_false (eq_z m.q (pos 0))) ∙ t.q_is, t.r_is, t.p_in, t.q_in, r_in t))
+  r_in : (m : Record) {kind a : ℕ} → Plain kind a m → on_scale m.r ≡ true
+  r_in m t = ap on_scale (eq_z_eq m.r (pos 0) t.r_is)
 
-  pair_passes : eqb (row_of h.kind h.b).list 19 ≡ true → Plain 4 0 m → Passes (member pair)
-  pair_passes e t = (refl, e, λ n before. rw (t.padding_is, t.a_is, t.b_is, t.r_is, t.p_in, t.q_in, r_in t))
-
-  named : (k : Kind) → m.kind ≡ k → Passes k → Passes m.kind
-  named k e p = subst Passes (sym e) p
-
-  -- by the list
-  abbrev pairs : Bool → ℕ
-  pairs b = cond b 4 0
-
-  abbrev items : Bool → Bool → ℕ
-  items a b = cond a 3 (pairs b)
-
-  abbrev Given : ℕ → Type 0
-  Given kind = ¬ (kind ≡ 0) → is_plain kind (plain_lead kind h.a) m ≡ true → Passes m.kind
-
-  plain_passes : Given (plain_kind (row_of h.kind h.b).list)
+  pub value-list : (row_of h.kind h.b).list ≡ 1 → h.a < 256 → PlainList h (2 + h.a * 0x100)
   unfolding kind_of
-  plain_passes = values (eqb list 1) refl
-    where
-      list : ℕ
-      list = (row_of h.kind h.b).list
+  value-list e due m read bytes t =
+      let p = plain_of 2 h.a m bytes (omega arith) due t in
+      let q : eq_z m.q (pos 0) ≡ true = sym (ap (λ (b : Bool). b || eq_z m.q (pos 0)) (eqb_no (2 + h.a * 0x100) 4 (λ z. omega arith))) ∙ p.q_is in
+      named m (member value) (read ∙ ap kind_of p.code_is) (refl, eqb_yes _ _ e, λ n before. rw (p.padding_is, p.a_is, p.b_is, q, p.r_is, p.p_in, p.q_in, r_in m p))
 
-      of_pairs : (b : Bool) → eqb list 19 ≡ b → Given (pairs b)
-      of_pairs true e n t = let p = plain_of 4 0 m bytes (omega arith) (omega arith) t in named (member pair) (read ∙ ap kind_of p.code_is) (pair_passes e p)
-      of_pairs false e n t = absurd (n refl)
+  pub item-list : (row_of h.kind h.b).list ≡ 18 → PlainList h 3
+  unfolding kind_of
+  item-list e m read bytes t =
+      let p = plain_of 3 0 m bytes (omega arith) (omega arith) t in
+      named m (member item) (read ∙ ap kind_of p.code_is) (refl, eqb_yes _ _ e, λ n before. rw (p.padding_is, p.a_is, p.b_is, p.q_is, p.r_is, p.p_in, p.q_in, r_in m p))
 
-      of_items : (b : Bool) → eqb list 18 ≡ b → Given (items b (eqb list 19))
-      of_items true e n t = let p = plain_of 3 0 m bytes (omega arith) (omega arith) t in named (member item) (read ∙ ap kind_of p.code_is) (item_passes e p)
-      of_items false e n t = of_pairs (eqb list 19) refl n t
-
-      values : (b : Bool) → eqb list 1 ≡ b → Given (cond b 2 (items (eqb list 18) (eqb list 19)))
-      values true e n t = let p = plain_of 2 h.a m bytes (omega arith) due t in named (member value) (read ∙ ap kind_of p.code_is) (value_passes e p)
-      values false e n t = of_items (eqb list 18) refl n t
+  pub pair-list : (row_of h.kind h.b).list ≡ 19 → PlainList h 4
+  unfolding kind_of
+  pair-list e m read bytes t =
+      let p = plain_of 4 0 m bytes (omega arith) (omega arith) t in
+      named m (member pair) (read ∙ ap kind_of p.code_is) (refl, eqb_yes _ _ e, λ n before. rw (p.padding_is, p.a_is, p.b_is, p.r_is, p.p_in, p.q_in, r_in m p))
 
 -- A plain member leaves what there was to judge.
-module _ (file : List ℕ) (st : State) (kind lead : ℕ) (due : (record_at file st.head).a < 256)
-    (kind_is : kind ≡ plain_kind (row_of (record_at file st.head).kind (record_at file st.head).b).list) (some : ¬ (kind ≡ 0)) (lead_is : lead ≡ plain_lead kind (record_at file st.head).a)
-  where
-    abbrev Plainly : ℕ → Type 0
-    Plainly i = (is_plain kind lead (record_at file i) ≡ true) × InBytes (record_at file i)
+module _ (file : List ℕ) (st : State) (lead : ℕ) (plain : PlainList (record_at file st.head) lead) where
+  abbrev Plainly : ℕ → Type 0
+  Plainly i = (is_plain lead (record_at file i) ≡ true) × InBytes (record_at file i)
 
-    at_plain : (i : ℕ) → st.head < i → i < length file / 32 → Plainly i → left_at file st i ≡ left_at file st (i + 1)
-    at_plain i l inside t =
-        let h = record_at file st.head in
-        let m = record_at file i in
-        let before = take (i - (st.head + 1)) (drop (st.head + 1) (records_of file)) in
-        let p = plain_passes h m (kind_of_lem file i) t.1 due (λ z. some (kind_is ∙ z)) (sym (ap (λ (k : ℕ). is_plain k (plain_lead k h.a) m) kind_is) ∙ sym (ap (λ (x : ℕ). is_plain kind x m) lead_is) ∙ t.0) in
-        at_member file st h before i refl refl m refl inside 0 (sym (p.2 st.fields before)) l p.0 p.1
+  at_plain : (i : ℕ) → st.head < i → i < length file / 32 → Plainly i → left_at file st i ≡ left_at file st (i + 1)
+  at_plain i l inside t =
+      let h = record_at file st.head in
+      let m = record_at file i in
+      let before = take (i - (st.head + 1)) (drop (st.head + 1) (records_of file)) in
+      let p = plain m (kind_of_lem file i) t.1 t.0 in
+      at_member file st h before i refl refl m refl inside none (ap (λ (n : ℕ). refuse n (i + 1)) (sym (p.2 st.context.fields before))) l p.0 p.1
 
-    -- So do d of them.
-    plains : (d i : ℕ) → st.head < i → i + d ≤ length file / 32 → ((j : ℕ) → i ≤ j → j < i + d → Plainly j) → left_at file st i ≡ left_at file st (i + d)
-    plains zero i l inside t = ap (left_at file st) (sym (add-zero i))
-    plains (suc d) i l inside t =
-        let e : i + 1 + d ≡ i + suc d = omega arith in
-        at_plain i l (omega arith) (t i (omega arith) (omega arith)) ∙ plains d (i + 1) (omega arith) (omega arith) (λ j g k. t j (omega arith) (omega arith)) ∙ ap (left_at file st) e
+  -- So do d of them.
+  plains : (d i : ℕ) → st.head < i → i + d ≤ length file / 32 → ((j : ℕ) → i ≤ j → j < i + d → Plainly j) → left_at file st i ≡ left_at file st (i + d)
+  plains zero i l inside t = ap (left_at file st) (sym (add-zero i))
+  plains (suc d) i l inside t =
+      let e : i + 1 + d ≡ i + suc d = omega arith in
+      at_plain i l (omega arith) (t i (omega arith) (omega arith)) ∙ plains d (i + 1) (omega arith) (omega arith) (λ j g k. t j (omega arith) (omega arith)) ∙ ap (left_at file st) e
 
-    pub at_plains : (i k : ℕ) → st.head < i → i ≤ k → k ≤ length file / 32 → ((j : ℕ) → i ≤ j → j < k → Plainly j) → left_at file st i ≡ left_at file st k
-    at_plains i k l g inside t =
-        let e : i + (k - i) ≡ k = omega arith in
-        plains (k - i) i l (omega arith) (λ j a b. t j a (omega arith)) ∙ ap (left_at file st) e
+  pub at_plains : (i k : ℕ) → st.head < i → i ≤ k → k ≤ length file / 32 → ((j : ℕ) → i ≤ j → j < k → Plainly j) → left_at file st i ≡ left_at file st k
+  at_plains i k l g inside t =
+      let e : i + (k - i) ≡ k = omega arith in
+      plains (k - i) i l (omega arith) (λ j a b. t j a (omega arith)) ∙ ap (left_at file st) e

@@ -2,9 +2,10 @@
 use mathlib.Core.Bool.{Bool, cond, false, true}
 use mathlib.Core.List.{List, [], ◌∷◌}
 use mathlib.Core.Path.{◌∙◌, ◌≡◌, ap, refl, sym}
-use Prim.Native.Nat.{◌*◌, ◌+◌, ◌/◌, ◌<◌, ◌^◌, ◌≤◌, suc, zero, ℕ}
+use Prim.Native.Nat.{◌*◌, ◌+◌, ◌/◌, ◌<◌, ◌≤◌, suc, zero, ℕ}
 use native.Mathlib.Nat.{le-div_iff_mul-le, mul_comm, mul-zero, suc-mul}
 use native.Mathlib.Omega.{arith}
+use lib.Dec.{eqb}
 use lib.IntN.{+ℤ_assoc, +ℤ_idr, ◌*ℤ◌, ◌+ℤ◌, ◌-ℤ◌, nat_abs, negsuc, pos, pos-*ℤ-pos, pos-+ℤ-pos, ℤ}
 use lib.ListN.{get_or, length}
 use lib.Signed.{le_z, mag}
@@ -13,12 +14,12 @@ use mir.Val.{SFits, to_z}
 use mir.ValLaws.{to_z-of_z, to_z_pos}
 use borrow.Author.Rules.{sfits_of}
 use Rattle.lists.proofs.Signed.{apart_bound}
-use Rattle.spec.specs.Code.{InRise, IsRise, ps_of}
+use Rattle.spec.specs.Code.{InRise, IsRise, high_of, low_of, ps_of}
 use Rattle.spec.specs.Domain.{domain, first_multiple, how_many, multiples, progression, step_of}
 use Rattle.spec.specs.Record.{Record, field_by, record_at, records_of}
 use Rattle.spec.specs.Refusal.{on_scale}
 use Rattle.spec.proofs.Fields.{length_records, record_get_d}
-use Rattle.spec.proofs.Multiples.{first_bound, held, scale_bound}
+use Rattle.spec.proofs.Multiples.{first_bound, held, scale_bound, step_positive, step_small}
 use Rattle.spec.specs.declared.domains.Rise.{Rise}
 
 progression_at : (k : ℕ) (a : ℤ) (n j : ℕ) → j < n → get_or (progression k a n) j (pos 0) ≡ a +ℤ pos (k * j)
@@ -42,15 +43,6 @@ steps_bound k first q j s l = go (le_z first q) l
 place_bound : (k j : ℕ) → 0 < k → j ≤ k * j
 place_bound zero j s = absurd (omega arith)
 place_bound (suc k) j s = omega (arith, suc-mul k j)
-
--- The step that a record on the scale takes.
-pub step_positive : (n : ℕ) → 0 < step_of n
-step_positive zero = omega arith
-step_positive (suc n) = omega arith
-
-step_small : (n : ℕ) → n ≤ 2 ^ 56 → step_of n ≤ 2 ^ 56
-step_small zero h = omega arith
-step_small (suc n) h = h
 
 module _ (d : Rise) (r p q : ℤ) (j : ℕ) (is : IsRise d (step_of (nat_abs r)) p q) (inside : j < how_many (step_of (nat_abs r)) (first_multiple (step_of (nat_abs r)) p) q) where
   abs_step : nat_abs d.step ≡ step_of (nat_abs r)
@@ -108,13 +100,19 @@ module _ (h : Record) (ms : List Record) where
   domain_listed (suc zero) l = absurd (omega arith)
   domain_listed (suc (suc k)) l = refl
 
-  pub domain_ranged : (form : ℕ) → form ≡ 1 → domain (field_by form h ms) ≡ multiples (step_of (nat_abs h.r)) h.p h.q
-  domain_ranged form e = ap (λ (k : ℕ). domain (field_by k h ms)) e
+  -- The multiples in the range that the form says.
+  pub domain_rise : (form : ℕ) → form < 2 → domain (field_by form h ms) ≡ multiples (step_of (nat_abs h.r)) (low_of form h.p) (high_of form h.q)
+  domain_rise zero l = refl
+  domain_rise (suc zero) l = refl
+  domain_rise (suc (suc k)) l = absurd (omega arith)
 
-  pub domain_free : (form : ℕ) → form < 2 → ¬ (form ≡ 1) → domain (field_by form h ms) ≡ multiples (step_of (nat_abs h.r)) (pos 0) (pos 255)
-  domain_free zero l n = refl
-  domain_free (suc zero) l n = absurd (n refl)
-  domain_free (suc (suc k)) l n = absurd (omega arith)
+-- That range is on the scale where p and q are.
+pub range_in : (form : ℕ) (p q : ℤ) → on_scale p ≡ true → on_scale q ≡ true → (on_scale (low_of form p) ≡ true) × (on_scale (high_of form q) ≡ true)
+range_in form p q p_in q_in = go (eqb form 1)
+  where
+    go : (b : Bool) → (on_scale (cond b p (pos 0)) ≡ true) × (on_scale (cond b q (pos 255)) ≡ true)
+    go true = (p_in, q_in)
+    go false = (refl, refl)
 
 -- The value at a place of a list of values.
 pub p_place : (bytes : List ℕ) (i : ℕ) → i < length bytes / 32 → get_or (ps_of (records_of bytes)) i (pos 0) ≡ (record_at bytes i).p

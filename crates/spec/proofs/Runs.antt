@@ -1,20 +1,24 @@
 -- Runs of records: the part of a file that they are, and the turns of the loops over them.
-use mathlib.Core.Bool.{Bool, ◌&&◌, ◌||◌, false, true}
+use mathlib.Core.Bool.{Bool, ◌||◌, false, true}
 use mathlib.Core.List.{List, [], ◌∷◌, map}
 use mathlib.Core.Path.{◌∙◌, ◌≡◌, ap, ap₂, refl, sym}
 use Prim.Native.Nat.{◌*◌, ◌+◌, ◌-◌, ◌/◌, ◌<◌, ◌≤◌, suc, zero, ℕ}
 use native.Mathlib.Numerals.{add-one}
 use native.Mathlib.Omega.{arith}
+use lib.Dec.{eqb}
 use lib.IntN.{ℤ}
 use lib.ListN.{drop, drop_of_length-le, length, length-append, length-drop, length-take, take, take-append-drop}
 use lib.Seq.{drop-drop, take_at, take-nil, take-take}
+use mir.Syntax.{w64}
+use mir.Val.{SFits, of_z}
 use Rattle.lists.specs.Integers.{elem_z, eq_z}
 use Rattle.lists.proofs.Lists.{any_append, map_append}
-use Rattle.lists.proofs.Tests.{and_split, or_assoc, or_false}
+use Rattle.lists.proofs.Tests.{eqb_ext, or_assoc, or_false}
+use Rattle.lists.proofs.Words.{eq_bits}
 use Rattle.spec.specs.Code.{ps_of}
-use Rattle.spec.specs.Kind.{is_member, kind_of}
+use Rattle.spec.specs.Kind.{is_member}
 use Rattle.spec.specs.Record.{Record, chunks, groups, member_run, parts_of, record_at, record_of, records_of}
-use Rattle.spec.proofs.Fields.{kind_of_lem, length_records, records_from}
+use Rattle.spec.proofs.Fields.{length_records, records_from}
 use Rattle.spec.proofs.Groups.{flat, records_flat}
 
 drop-take : (k n m : ℕ) (l : List ℕ) → k + n ≡ m → drop k (take m l) ≡ take n (drop k l)
@@ -67,23 +71,6 @@ module _ (file : List ℕ) where
   pub run_more : (i : ℕ) → i < length file / 32 → is_member (record_at file i).kind ≡ true → run_length i ≡ suc (run_length (i + 1))
   run_more i h t = rw (add-one, records_from file i h) (rw t)
 
-  abbrev member : ℕ → Bool
-  member i = is_member (kind_of (record_at file i).code)
-
-  more : (i : ℕ) → i < length file / 32 → member i ≡ true → run_length i ≡ suc (run_length (i + 1))
-  more i h t = run_more i h (ap is_member (kind_of_lem file i) ∙ t)
-
-  -- four members
-  pub run_four : (i : ℕ) → i + 4 ≤ length file / 32 → (is_member (kind_of (record_at file i).code) && is_member (kind_of (record_at file (i + 1)).code) && is_member (kind_of (record_at file (i + 2)).code) && is_member (kind_of (record_at file (i + 3)).code)) ≡ true → i + 4 + run_length (i + 4) ≡ i + run_length i
-  run_four i h t =
-      let a = and_split (member i && member (i + 1) && member (i + 2)) (member (i + 3)) t in
-      let b = and_split (member i && member (i + 1)) (member (i + 2)) a.0 in
-      let d = and_split (member i) (member (i + 1)) b.0 in
-      let x : run_length (i + 1 + 1) ≡ run_length (i + 2) = let e : i + 1 + 1 ≡ i + 2 = omega arith in ap run_length e in
-      let y : run_length (i + 2 + 1) ≡ run_length (i + 3) = let e : i + 2 + 1 ≡ i + 3 = omega arith in ap run_length e in
-      let z : run_length (i + 3 + 1) ≡ run_length (i + 4) = let e : i + 3 + 1 ≡ i + 4 = omega arith in ap run_length e in
-      omega (arith, more i (omega arith) d.0, more (i + 1) (omega arith) d.1, more (i + 2) (omega arith) b.1, more (i + 3) (omega arith) a.1, x, y, z)
-
   pub run_stop : (i : ℕ) → i < length file / 32 → is_member (record_at file i).kind ≡ false → run_length i ≡ 0
   run_stop i h t = rw (records_from file i h) (rw t)
 
@@ -91,6 +78,10 @@ module _ (file : List ℕ) where
   run_end i h = let e : length (records_of file) ≤ i = omega (arith, length_records file) in rw (drop_of_length-le (records_of file) e)
 
 -- ---- the search of a run for a value
+-- A test of bits, of the numbers: x was read and is p.
+pub read_eq : (v x p : ℤ) → SFits w64 v → SFits w64 x → x ≡ p → eqb (of_z w64 x) (of_z w64 v) ≡ eq_z v p
+read_eq v x p f g e = eqb_ext (of_z w64 x) (of_z w64 v) (of_z w64 v) (of_z w64 x) sym sym ∙ eq_bits v x f g ∙ ap (eq_z v) e
+
 or_four : (a b c d : Bool) → (a || (b || (c || (d || false)))) ≡ (a || b || c || d)
 or_four true b c d = refl
 or_four false true c d = refl

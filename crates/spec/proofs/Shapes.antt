@@ -4,9 +4,9 @@ use mathlib.Core.List.{List, [], ◌++◌, ◌∷◌}
 use mathlib.Core.Option.{none}
 use mathlib.Core.Path.{◌∙◌, ◌≡◌, ap, ap₂, refl, subst, sym}
 use Prim.Native.Nat.{◌*◌, ◌+◌, ◌/◌, ◌<◌, ◌≤◌, suc, zero, ℕ}
-use native.Mathlib.Nat.{le-div_iff_mul-le, mul_assoc, mul_comm, mul-one, mul-zero}
+use native.Mathlib.Nat.{mul_assoc, mul-one, mul-zero}
 use native.Mathlib.Omega.{arith}
-use lib.Dec.{eqb, leb, ltb}
+use lib.Dec.{eqb, leb}
 use lib.IntN.{nat_abs, pos}
 use lib.ListN.{drop, length, length-map}
 use Rattle.lists.specs.Integers.{eq_z}
@@ -14,15 +14,13 @@ use Rattle.lists.specs.Lists.{concat_map, product}
 use Rattle.lists.proofs.All.{All, All_at, []ᴬ, ◌∷ᴬ◌}
 use Rattle.lists.proofs.Integers.{eq_z_eq}
 use Rattle.lists.proofs.Range.{in_range}
-use Rattle.lists.proofs.Tests.{eqb_no, leb_no, leb_yes, no_ge, no_gt, or_split, yes_le, yes_lt}
-use Rattle.spec.specs.Code.{InScale, capped, domain_length, head_at, length_by, lengths}
+use Rattle.lists.proofs.Tests.{eqb_no, leb_no, no_gt, or_split, yes_le}
+use Rattle.spec.specs.Code.{InScale, capped, domain_length, length_by, lengths}
 use Rattle.spec.specs.Domain.{domain, step_of, total, zero_without}
 use Rattle.spec.specs.Kind.{Kind, constraint, field, field_row, is_field, is_member, kind_of, member, projector, unknown}
 use Rattle.spec.specs.Record.{Group, Record, decoded, field_by, field_in, field_of, group, groups, member_run, record_at, records_of, spec_of, unless_member}
 use Rattle.spec.specs.Refusal.{Context, after, context, negative, off_scale, records_fault, stray_by, stray_byte}
 use Rattle.spec.specs.Spec.{FieldSpec, Spec}
-use Rattle.spec.specs.declared.walker.Head.{Head}
-use Rattle.spec.specs.declared.walker.Head.TheVariants as heads
 use Rattle.spec.proofs.Accepted.{count-constraints, count-fields, fields_of-groups}
 use Rattle.spec.proofs.Domain.{length-multiples}
 use Rattle.spec.proofs.Fields.{length_records, record_get_d, records_from}
@@ -32,29 +30,7 @@ use Rattle.spec.proofs.Runs.{run_length}
 use Rattle.spec.proofs.Sections.{not_field}
 use Rattle.spec.proofs.Uses.{field_in_scale, not_off}
 
--- ---- what a walker finds at a record's number
-abbrev code_or : Head → ℕ
-code_or (heads.Code code) = code
-code_or heads.End = 0
-
-pub head_end : (file : List ℕ) (i : ℕ) → head_at file i ≡ heads.End → length file / 32 ≤ i
-head_end file i = go (ltb i (length file / 32)) refl
-  where
-    go : (b : Bool) → ltb i (length file / 32) ≡ b → cond b (heads.Code (record_at file i).code) heads.End ≡ heads.End → length file / 32 ≤ i
-    go true e c = let z : ◌≡◌ {A = ℕ} 0 1 = cc in absurd (omega arith)
-    go false e c = no_ge i (length file / 32) e
-
-pub head_code : (file : List ℕ) (i code : ℕ) → head_at file i ≡ heads.Code code → (i < length file / 32) × ((record_at file i).code ≡ code)
-head_code file i code = go (ltb i (length file / 32)) refl
-  where
-    go : (b : Bool) → ltb i (length file / 32) ≡ b → cond b (heads.Code (record_at file i).code) heads.End ≡ heads.Code code → (i < length file / 32) × ((record_at file i).code ≡ code)
-    go true e c = (yes_lt i (length file / 32) e, ap code_or c)
-    go false e c = let z : ◌≡◌ {A = ℕ} 0 1 = cc in absurd (omega arith)
-
 -- ---- products that stop growing
-pub capped_within : (n : ℕ) → n ≤ 1000000000 → capped n ≡ n
-capped_within n h = rw (leb_yes n 1000000000 h)
-
 pub capped-above : (n : ℕ) → 1000000000 < n → capped n ≡ 1000000001
 capped-above n h = rw (leb_no n 1000000000 h)
 
@@ -81,16 +57,6 @@ capped_times n k = go (leb n 1000000000) refl k
     go true e k = refl
     go false e zero = rw (mul-zero n)
     go false e (suc k) = let g = no_gt n 1000000000 e in capped-above (1000000001 * suc k) (omega arith) ∙ sym (capped-above (n * suc k) (omega arith))
-
-module _ (a b : ℕ) (positive : 0 < a) where
-  pub product_within : b ≤ 1000000000 / a → a * b ≤ 1000000000
-  product_within h = let g = (le-div_iff_mul-le {k = a} {x = b} {y = 1000000000} positive).0 h in let e = mul_comm a b in omega arith
-
-  pub product-above : 1000000000 / a < b → 1000000000 < a * b
-  product-above h = not_le (λ g. let l = (le-div_iff_mul-le {k = a} {x = b} {y = 1000000000} positive).1 (let e = mul_comm a b in omega arith) in omega arith)
-    where
-      not_le : ¬ (a * b ≤ 1000000000) → 1000000000 < a * b
-      not_le n = omega arith
 
 -- ---- fields in scale
 -- A field's numbers are in scale.

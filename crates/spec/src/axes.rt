@@ -1,12 +1,12 @@
 // The rules of decompose: its axes and its offset.
-ghost use Rattle.std.specs.Prelude.{◌≡◌, ◌<◌};
+ghost use Rattle.std.specs.Prelude.{◌≡◌, ◌+◌, ◌≤◌, ◌<◌};
 ghost use Rattle.lists.specs.Lists.{any};
 ghost use Rattle.spec.specs.Record.{records_of};
 ghost use Rattle.spec.specs.Refusal.{bad_radix, overlaps, bad_axis, bad_offset};
 ghost use Rattle.spec.specs.Code.{as_record, reaches_over};
 
 use crate::numbers::power;
-use crate::records::{Record, a_at, b_at, record_at};
+use crate::records::{Record, a_at, b_at};
 
 // radix ≥ 2 and radix − 1 < 2^width; 0 is absent.
 fn bad_radix(width: usize, radix: i64) -> bool
@@ -22,56 +22,33 @@ fn bad_radix(width: usize, radix: i64) -> bool
     power(width) <= (radix - 1) as u64
 }
 
-// Two axes that share a bit.
-fn overlap(m: Record, k: Record) -> bool
-    requires { (m.a < 256) × (m.b < 256) × (k.a < 256) × (k.b < 256) }
-    ensures { result ≡ overlaps (as_record m) (as_record k) }
-{
-    !((m.b + m.a <= k.b) | (k.b + k.a <= m.b))
-}
-
+// Axis m shares a bit with one of the axes before it.
 fn overlaps_any(m: Record, before: &[u8]) -> bool
-    requires { (m.a < 256) × (m.b < 256) }
+    requires { m.b + m.a ≤ 63 }
     ensures { result ≡ any (overlaps (as_record m)) (records_of before.now) }
 {
-    let n = before.len() / 32;
-    let mut i = 0;
-    while i < n {
-        if overlap(m, record_at(before, i)) {
-            return true;
-        }
-        i += 1;
-    }
-    false
+    (0..before.len() / 32).any(|i| {
+        let shift = b_at(before, i);
+        let end = shift + a_at(before, i);
+        !((m.b + m.a <= shift) | (end <= m.b))
+    })
 }
 
 // width 1..63, shift + width ≤ 63, the radix, and no overlap with an axis before it.
 pub(crate) fn bad_axis(m: Record, before: &[u8]) -> bool
-    requires { (m.a < 256) × (m.b < 256) }
     ensures { result ≡ bad_axis (records_of before.now) (as_record m) }
 {
-    if (m.a == 0) | (63 < m.b + m.a) {
+    if m.a == 0 || 63 < m.a || 63 - m.a < m.b {
         return true;
     }
-    if bad_radix(m.a, m.p) {
-        return true;
-    }
-    overlaps_any(m, before)
+    bad_radix(m.a, m.p) || overlaps_any(m, before)
 }
 
 // An axis reaches above bit `top`.
 fn reaches_over(axes: &[u8], top: usize) -> bool
     ensures { result ≡ reaches_over top (records_of axes.now) }
 {
-    let n = axes.len() / 32;
-    let mut i = 0;
-    while i < n {
-        if top < b_at(axes, i) + a_at(axes, i) {
-            return true;
-        }
-        i += 1;
-    }
-    false
+    (0..axes.len() / 32).any(|i| top < b_at(axes, i) + a_at(axes, i))
 }
 
 // q is −1..63, and not below the highest shift + width.

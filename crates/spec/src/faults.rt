@@ -1,134 +1,115 @@
-// The number that a record, or the list of a head, is refused with; 0 for none.
-ghost use Rattle.std.specs.Prelude.{◌≡◌, true, false, ◌<◌};
-ghost use Rattle.spec.specs.Kind.{kind_of, is_member};
+// What a record, or the list of a head, is refused for.
+ghost use Rattle.std.specs.Prelude.{◌≡◌, true, false};
+ghost use Rattle.spec.specs.Kind.{is_member};
 ghost use Rattle.spec.specs.Record.{records_of};
 ghost use Rattle.spec.specs.Refusal.{off_scale, blank_field, head_tests, member_tests, belongs, list_fault, first_true, misfiled_number};
-ghost use Rattle.spec.specs.Code.{as_record, as_context, table_words};
+ghost use Rattle.spec.specs.Code.{as_record, as_context, as_kind, fault_number, number_of};
 
 use crate::axes::{bad_axis, bad_offset};
+use crate::context::Context;
 use crate::domains::domain_len;
-use crate::judge::{
-    Context, due_by, named_by, out_of_order_by, over_full, scaled_by, stray_by, stray_byte,
-    unknown_kind,
-};
-use crate::kinds::{Class, class_of, row_in};
+use crate::judge::{Candidate, unknown_kind};
+use crate::kinds::{Kind, List, row_of};
 use crate::records::Record;
+use crate::refusal::Fault;
 
 // 8: the domain of a field without a list is empty.
 fn blank_field(h: Record) -> bool
-    requires { off_scale (kind_of h.code) (as_record h) ≡ false }
-    ensures { result ≡ blank_field (kind_of h.code) (as_record h) }
+    requires { off_scale (as_kind h.kind) (as_record h) ≡ false }
+    ensures { result ≡ blank_field (as_kind h.kind) (as_record h) }
 {
-    match class_of(h.code) {
-        Class::Field => {
-            if 2 <= h.b {
-                return false;
-            }
-            domain_len(h, 0) == 0
-        }
-        Class::Member => false,
-        Class::Constraint => false,
-        Class::Projector => false,
-        Class::Unknown => false,
-    }
+    h.kind == Kind::Field && h.b < 2 && domain_len(h, 0) == 0
 }
 
-// A head, after so many fields and constraints: the lowest number from 2 to 8.
-pub(crate) fn head_fault(rows: &[u32], h: Record, c: Context) -> u8
-    requires { rows.now ≡ table_words }
-    ensures { result ≡ first_true 2 (head_tests (kind_of h.code) (as_context c) (as_record h)) }
+// A head, after so many fields and constraints: the first of the faults 2 to 8.
+pub(crate) fn judge_head(h: Record, context: Context) -> Result<(), Fault>
+    requires { is_member (as_kind h.kind) ≡ false }
+    ensures { number_of result ≡ first_true 2 (head_tests (as_kind h.kind) (as_context context) (as_record h)) }
 {
     if unknown_kind(h) {
-        return 2;
+        return Err(Fault::UnknownKind);
     }
-    let w = row_in(rows, h.code, h.b);
-    if stray_by(w, h) {
-        return 3;
+    let head = Candidate::new(h);
+    if head.has_stray_byte() {
+        return Err(Fault::StrayByte);
     }
-    if out_of_order_by(w, h, c) {
-        return 4;
+    if head.is_out_of_order(context) {
+        return Err(Fault::OutOfOrder);
     }
-    if over_full(h, c) {
-        return 5;
+    if context.is_full_for(h.kind) {
+        return Err(Fault::TooMany);
     }
-    if named_by(w, c.fields, h) {
-        return 6;
+    if head.names_no_field(context.fields) {
+        return Err(Fault::NoSuchField);
     }
-    if scaled_by(w, h) {
-        return 7;
+    if head.is_off_scale() {
+        return Err(Fault::OffScale);
     }
     if blank_field(h) {
-        return 8;
+        return Err(Fault::EmptyDomain);
     }
-    0
+    Ok(())
 }
 
-// Head h takes the record m.
-pub(crate) fn belongs_to(rows: &[u32], h: Record, m: Record) -> bool
-    requires { (is_member (kind_of m.code) ≡ true) × (rows.now ≡ table_words) }
+// Head h takes the member m.
+pub(crate) fn belongs_to(h: Record, m: Record) -> bool
+    requires { is_member (as_kind m.kind) ≡ true }
     ensures { result ≡ belongs (as_record h) (as_record m) }
 {
-    let w = row_in(rows, h.code, h.b);
-    let v = row_in(rows, m.code, m.b);
-    w.list == v.list
+    row_of(h.kind, h.b).list == row_of(m.kind, m.b).list
 }
 
-// A member m that head h takes, after so many fields and the members before it: the lowest number from 3 to 9.
-pub(crate) fn member_fault(rows: &[u32], h: Record, fields: usize, before: &[u8], m: Record) -> u8
-    requires { (m.a < 256) × (m.b < 256) × (rows.now ≡ table_words) }
-    ensures { result ≡ first_true 2 (member_tests (kind_of m.code) fields (as_record h) (records_of before.now) (as_record m)) }
+// A member m that head h takes, after so many fields and the members before it: the first of the faults 3 to 9.
+pub(crate) fn judge_member(h: Record, fields: usize, before: &[u8], m: Record) -> Result<(), Fault>
+    ensures { number_of result ≡ first_true 2 (member_tests (as_kind m.kind) fields (as_record h) (records_of before.now) (as_record m)) }
 {
-    let w = row_in(rows, m.code, m.b);
-    if stray_by(w, m) {
-        return 3;
+    let member = Candidate::new(m);
+    if member.has_stray_byte() {
+        return Err(Fault::StrayByte);
     }
-    if due_by(w, h.a, m) {
-        return 4;
+    if member.is_not_due(h.a) {
+        return Err(Fault::OutOfOrder);
     }
-    if named_by(w, fields, m) {
-        return 6;
+    if member.names_no_field(fields) {
+        return Err(Fault::NoSuchField);
     }
-    if scaled_by(w, m) {
-        return 7;
+    if member.is_off_scale() {
+        return Err(Fault::OffScale);
     }
-    // An axis: a member of list 33.
-    if w.list != 33 {
-        return 0;
+    if member.row.list == List::Axes && bad_axis(m, before) {
+        return Err(Fault::BadPacking);
     }
-    if bad_axis(m, before) {
-        return 9;
-    }
-    0
+    Ok(())
 }
 
-// A member that its head does not take, or that no head stands before: 3 or 4.
-pub(crate) fn misfiled_fault(rows: &[u32], m: Record) -> u8
-    requires { rows.now ≡ table_words }
-    ensures { result ≡ misfiled_number (as_record m) }
+// A member that its head does not take, or that no head stands before.
+pub(crate) fn misfiled_fault(m: Record) -> Fault
+    ensures { fault_number result ≡ misfiled_number (as_record m) }
 {
-    if stray_byte(rows, m) {
-        return 3;
+    if Candidate::new(m).has_stray_byte() {
+        Fault::StrayByte
+    } else {
+        Fault::OutOfOrder
     }
-    4
 }
 
 // A fault of the whole list of head h: 8 or 9.
-pub(crate) fn list_fault(h: Record, members: &[u8]) -> u8
-    ensures { result ≡ list_fault (kind_of h.code) (as_record h) (records_of members.now) }
+pub(crate) fn judge_list(h: Record, members: &[u8]) -> Result<(), Fault>
+    ensures { number_of result ≡ list_fault (as_kind h.kind) (as_record h) (records_of members.now) }
 {
-    if h.code == 1 {
-        if (h.b == 2) & (members.len() < 32) {
-            return 8;
+    let is_empty = members.len() < 32;
+    match h.kind {
+        Kind::Field => {
+            if (h.b == 2) & is_empty {
+                return Err(Fault::EmptyDomain);
+            }
         }
-        return 0;
+        Kind::Decompose => {
+            if is_empty | bad_offset(members, h.q) {
+                return Err(Fault::BadPacking);
+            }
+        }
+        _ => {}
     }
-    if h.code == 33 {
-        if members.len() < 32 {
-            return 9;
-        }
-        if bad_offset(members, h.q) {
-            return 9;
-        }
-    }
-    0
+    Ok(())
 }

@@ -1,7 +1,7 @@
-// The kinds of records, and the table of what each uses.
-ghost use Rattle.std.specs.Prelude.{◌≡◌, ◌<◌};
-ghost use Rattle.spec.specs.Kind.{kind_of, row_of, is_member, section_of};
-ghost use Rattle.spec.specs.Code.{as_kind, class_of, kind_number, table_row, table_words, code_row};
+// The kinds of records, the part of a file that each stands in, and the table of what each uses.
+ghost use Rattle.std.specs.Prelude.{◌≡◌};
+ghost use Rattle.spec.specs.Kind.{field_row, kind_of, row_of, is_member, section_of};
+ghost use Rattle.spec.specs.Code.{as_kind, as_row, kind_number, section_number};
 
 // The kind of a record. A number that is no kind's stays.
 #[derive(Clone, Copy, PartialEq, Eq)]
@@ -37,6 +37,7 @@ pub enum Kind {
 impl From<u8> for Kind {
     ghost from_gives = { λ code kind. (as_kind kind ≡ kind_of code) × (kind_number kind ≡ code) };
 
+    #[tactic(auto, unfolding(crate::specs::Kind::kind_of))]
     fn from(code: u8) -> Kind {
         match code {
             0 => Kind::Unknown(0),
@@ -72,160 +73,185 @@ impl From<u8> for Kind {
     }
 }
 
-// What a record is.
-#[derive(Clone, Copy)]
-pub enum Class {
-    Field,
-    Member,
-    Constraint,
+// The parts of a file, in their order. A record of no known kind stands in neither.
+#[derive(Clone, Copy, PartialEq, Eq, PartialOrd, Ord)]
+pub enum Section {
+    Fields,
+    Constraints,
     Projector,
-    Unknown,
+    Neither,
 }
 
-pub fn class_of(code: u8) -> Class
-    ensures { result ≡ class_of (kind_of code) }
-{
-    match code {
-        0 => Class::Unknown,
-        1 => Class::Field,
-        2..=8 => Class::Member,
-        9 => Class::Unknown,
-        10..=22 => Class::Constraint,
-        23..=29 => Class::Unknown,
-        30..=33 => Class::Projector,
-        34..=255 => Class::Unknown,
+impl Kind {
+    // A member stands in the list of a head.
+    pub fn is_member(self) -> bool
+        ensures { result ≡ is_member (as_kind self) }
+    {
+        match self {
+            Kind::Value
+            | Kind::Item
+            | Kind::Pair
+            | Kind::Key
+            | Kind::Disable
+            | Kind::Assign
+            | Kind::Axis => true,
+            Kind::Field
+            | Kind::Range
+            | Kind::Even
+            | Kind::Eq
+            | Kind::Neq
+            | Kind::Lt
+            | Kind::Gt
+            | Kind::Le
+            | Kind::Ge
+            | Kind::Oneof
+            | Kind::Cross
+            | Kind::EnableMask
+            | Kind::Bitmask
+            | Kind::EnableSet
+            | Kind::Sum
+            | Kind::Identity
+            | Kind::Parity
+            | Kind::Decompose
+            | Kind::Unknown(_) => false,
+        }
+    }
+
+    // The part of a file that the record stands in; a member stands in its head's.
+    pub fn section(self) -> Section
+        ensures { section_number result ≡ section_of (as_kind self) }
+    {
+        match self {
+            Kind::Field | Kind::Value => Section::Fields,
+            Kind::Item
+            | Kind::Pair
+            | Kind::Key
+            | Kind::Disable
+            | Kind::Assign
+            | Kind::Range
+            | Kind::Even
+            | Kind::Eq
+            | Kind::Neq
+            | Kind::Lt
+            | Kind::Gt
+            | Kind::Le
+            | Kind::Ge
+            | Kind::Oneof
+            | Kind::Cross
+            | Kind::EnableMask
+            | Kind::Bitmask
+            | Kind::EnableSet => Section::Constraints,
+            Kind::Axis | Kind::Sum | Kind::Identity | Kind::Parity | Kind::Decompose => {
+                Section::Projector
+            }
+            Kind::Unknown(_) => Section::Neither,
+        }
     }
 }
 
 pub fn is_member(code: u8) -> bool
     ensures { result ≡ is_member (kind_of code) }
 {
-    match code {
-        0..=1 => false,
-        2..=8 => true,
-        9..=255 => false,
-    }
-}
-
-// The part of a file that a record stands in: 0 fields, 1 constraints, 2 projector, 3 none.
-pub fn section_of(code: u8) -> u8
-    ensures { result ≡ section_of (kind_of code) }
-{
-    match code {
-        0 => 3,
-        1..=2 => 0,
-        3..=7 => 1,
-        8 => 2,
-        9 => 3,
-        10..=22 => 1,
-        23..=29 => 3,
-        30..=33 => 2,
-        34..=255 => 3,
-    }
+    Kind::from(code).is_member()
 }
 
 // What a record does with one of its numbers.
-pub const UNUSED: u8 = 0;
+#[derive(Clone, Copy, PartialEq, Eq)]
+pub enum Use {
+    // It is 0.
+    Unused,
+    Number,
+    // A number that is not negative: a mask, a step.
+    Natural,
+    // The number of the field that the record describes.
+    Own,
+    // The number of a field described before.
+    Names,
+}
 
-pub const NUMBER: u8 = 1;
+// The list that a head takes or that a member stands in.
+#[derive(Clone, Copy, PartialEq, Eq)]
+pub enum List {
+    Nothing,
+    Values,
+    Items,
+    Entries,
+    Disables,
+    Assigns,
+    Axes,
+}
 
-pub const NATURAL: u8 = 2;
-
-pub const OWN: u8 = 3;
-
-pub const NAMES: u8 = 4;
-
-// A row of the table: the list that a head takes or that a member stands in, by the head's kind number and 0 for none; then the uses of a, b, p, q, r.
+// A row of the table: the list, then the uses of a, b, p, q, r.
 #[derive(Clone, Copy)]
 pub struct Row {
-    pub list: u8,
-    pub a: u8,
-    pub b: u8,
-    pub p: u8,
-    pub q: u8,
-    pub r: u8,
+    pub list: List,
+    pub a: Use,
+    pub b: Use,
+    pub p: Use,
+    pub q: Use,
+    pub r: Use,
 }
 
-// A row for each kind from 0 to 33, kind 1 being a field of form 0; then fields of form 1 and of form 2. In hexadecimal: the list, and behind it a digit each for a, b, p, q, r.
-pub(crate) const ROWS: [u32; 36] = [
-    0x00_00000, 0x00_31002, // field, form 0
-    0x01_30100, // value
-    0x12_00100, // item
-    0x13_00110, // pair
-    0x13_00100, // key
-    0x14_40000, // disable
-    0x16_40100, // assign
-    0x21_11100, // axis
-    0x00_00000, 0x00_40110, // range
-    0x00_40000, // even
-    0x00_44000, // eq
-    0x00_44000, // neq
-    0x00_40100, // lt
-    0x00_40100, // gt
-    0x00_40100, // le
-    0x00_40100, // ge
-    0x12_40000, // oneof
-    0x13_44000, // cross
-    0x14_40100, // enable_mask
-    0x00_40210, // bitmask
-    0x16_40100, // enable_set
-    0x00_00000, 0x00_00000, 0x00_00000, 0x00_00000, 0x00_00000, 0x00_00000, 0x00_00000, 0x00_00000, // sum
-    0x00_40000, // identity
-    0x00_40000, // parity
-    0x21_40110, // decompose
-    0x00_31112, // field, form 1
-    0x01_31000, // field, form 2
-];
-
-// The row of the table for a kind, and for a form where it is a field.
-fn row_number(code: u8, form: usize) -> usize
-    ensures { (result < 36) × (table_row result ≡ row_of (kind_of code) form) }
-{
-    match code {
-        0 => 0,
-        1 => form_number(form),
-        2..=8 => code as usize,
-        9 => 0,
-        10..=22 => code as usize,
-        23..=29 => 0,
-        30..=33 => code as usize,
-        34..=255 => 0,
+impl Row {
+    fn new(list: List, a: Use, b: Use, p: Use, q: Use, r: Use) -> Row
+        ensures { result ≡ record { list = list; a = a; b = b; p = p; q = q; r = r } }
+    {
+        Row {
+            list,
+            a,
+            b,
+            p,
+            q,
+            r,
+        }
     }
-}
-
-fn form_number(form: usize) -> usize
-    ensures { (result < 36) × (table_row result ≡ row_of (kind_of 1) form) }
-{
-    if form == 0 {
-        return 1;
-    }
-    if form == 1 {
-        return 34;
-    }
-    35
 }
 
 // What a record of the kind, and of the form where it is a field, uses.
-pub fn row_of(code: u8, form: usize) -> Row
-    ensures { result ≡ code_row (row_of (kind_of code) form) }
+pub fn row_of(kind: Kind, form: usize) -> Row
+    ensures { as_row result ≡ row_of (as_kind kind) form }
 {
-    let rows = ROWS;
-    row_in(&rows, code, form)
+    use List::{Assigns, Axes, Disables, Entries, Items, Nothing, Values};
+    use Use::{Names, Natural, Number, Own, Unused};
+    match kind {
+        Kind::Field => field_row(form),
+        Kind::Value => Row::new(Values, Own, Unused, Number, Unused, Unused),
+        Kind::Item => Row::new(Items, Unused, Unused, Number, Unused, Unused),
+        Kind::Pair => Row::new(Entries, Unused, Unused, Number, Number, Unused),
+        Kind::Key => Row::new(Entries, Unused, Unused, Number, Unused, Unused),
+        Kind::Disable => Row::new(Disables, Names, Unused, Unused, Unused, Unused),
+        Kind::Assign => Row::new(Assigns, Names, Unused, Number, Unused, Unused),
+        Kind::Axis => Row::new(Axes, Number, Number, Number, Unused, Unused),
+        Kind::Range => Row::new(Nothing, Names, Unused, Number, Number, Unused),
+        Kind::Even => Row::new(Nothing, Names, Unused, Unused, Unused, Unused),
+        Kind::Eq => Row::new(Nothing, Names, Names, Unused, Unused, Unused),
+        Kind::Neq => Row::new(Nothing, Names, Names, Unused, Unused, Unused),
+        Kind::Lt => Row::new(Nothing, Names, Unused, Number, Unused, Unused),
+        Kind::Gt => Row::new(Nothing, Names, Unused, Number, Unused, Unused),
+        Kind::Le => Row::new(Nothing, Names, Unused, Number, Unused, Unused),
+        Kind::Ge => Row::new(Nothing, Names, Unused, Number, Unused, Unused),
+        Kind::Oneof => Row::new(Items, Names, Unused, Unused, Unused, Unused),
+        Kind::Cross => Row::new(Entries, Names, Names, Unused, Unused, Unused),
+        Kind::EnableMask => Row::new(Disables, Names, Unused, Number, Unused, Unused),
+        Kind::Bitmask => Row::new(Nothing, Names, Unused, Natural, Number, Unused),
+        Kind::EnableSet => Row::new(Assigns, Names, Unused, Number, Unused, Unused),
+        Kind::Sum => Row::new(Nothing, Unused, Unused, Unused, Unused, Unused),
+        Kind::Identity => Row::new(Nothing, Names, Unused, Unused, Unused, Unused),
+        Kind::Parity => Row::new(Nothing, Names, Unused, Unused, Unused, Unused),
+        Kind::Decompose => Row::new(Axes, Names, Unused, Number, Number, Unused),
+        Kind::Unknown(_) => Row::new(Nothing, Unused, Unused, Unused, Unused, Unused),
+    }
 }
 
-// The same, of the table lent.
-pub(crate) fn row_in(rows: &[u32], code: u8, form: usize) -> Row
-    requires { rows.now ≡ table_words }
-    ensures { result ≡ code_row (row_of (kind_of code) form) }
+// A field's row goes by its form, b.
+fn field_row(form: usize) -> Row
+    ensures { as_row result ≡ field_row form }
 {
-    let k = row_number(code, form);
-    let w = rows[k];
-    Row {
-        list: (w >> 20) as u8,
-        a: ((w >> 16) & 15) as u8,
-        b: ((w >> 12) & 15) as u8,
-        p: ((w >> 8) & 15) as u8,
-        q: ((w >> 4) & 15) as u8,
-        r: (w & 15) as u8,
+    use List::{Nothing, Values};
+    use Use::{Natural, Number, Own, Unused};
+    match form {
+        0 => Row::new(Nothing, Own, Number, Unused, Unused, Natural),
+        1 => Row::new(Nothing, Own, Number, Number, Number, Natural),
+        _ => Row::new(Values, Own, Number, Unused, Unused, Unused),
     }
 }

@@ -2,6 +2,7 @@
 #![tactic(auto)]
 
 mod axes;
+mod context;
 pub mod domains;
 mod faults;
 mod judge;
@@ -13,4 +14,3 @@ pub mod refusal;
 mod scan;
 mod shape;
 pub mod validate;
-mod walker;

@@ -1,91 +1,22 @@
 // Numbers: a list's index and a field's value, powers of two, and the bytes of a file read as numbers.
-ghost use Rattle.std.specs.Prelude.{◌≡◌, ◌+◌, ◌-◌, ◌≤◌, ◌<◌, ◌^◌, get_or, length};
-ghost use Rattle.lists.specs.Integers.{signed64};
+ghost use Rattle.std.specs.Prelude.{◌≡◌, ◌+◌, ◌-◌, ◌≤◌, ◌<◌, ◌^◌, length, take, drop};
+ghost use Rattle.lists.specs.Integers.{little_endian};
 ghost use Rattle.spec.specs.Record.{word_at};
-ghost use Rattle.spec.specs.Code.{eight_at};
 
 // An index into a list.
-#[derive(Clone, Copy)]
+#[derive(Clone, Copy, PartialEq, Eq, PartialOrd, Ord)]
 pub struct Index(pub usize);
 
 // The value of a field.
-#[derive(Clone, Copy)]
+#[derive(Clone, Copy, PartialEq, Eq, PartialOrd, Ord)]
 pub struct Value(pub i64);
-
-// The powers of two that widths and shifts take.
-const POWERS: [u64; 64] = [
-    1,
-    2,
-    4,
-    8,
-    16,
-    32,
-    64,
-    128,
-    256,
-    512,
-    1024,
-    2048,
-    4096,
-    8192,
-    16384,
-    32768,
-    65536,
-    131072,
-    262144,
-    524288,
-    1048576,
-    2097152,
-    4194304,
-    8388608,
-    16777216,
-    33554432,
-    67108864,
-    134217728,
-    268435456,
-    536870912,
-    1073741824,
-    2147483648,
-    4294967296,
-    8589934592,
-    17179869184,
-    34359738368,
-    68719476736,
-    137438953472,
-    274877906944,
-    549755813888,
-    1099511627776,
-    2199023255552,
-    4398046511104,
-    8796093022208,
-    17592186044416,
-    35184372088832,
-    70368744177664,
-    140737488355328,
-    281474976710656,
-    562949953421312,
-    1125899906842624,
-    2251799813685248,
-    4503599627370496,
-    9007199254740992,
-    18014398509481984,
-    36028797018963968,
-    72057594037927936,
-    144115188075855872,
-    288230376151711744,
-    576460752303423488,
-    1152921504606846976,
-    2305843009213693952,
-    4611686018427387904,
-    9223372036854775808,
-];
 
 // 2^k.
 pub fn power(k: usize) -> u64
     requires { k < 64 }
     ensures { result ≡ 2 ^ k }
 {
-    POWERS[k]
+    1 << k
 }
 
 // A number below `below` stays below 2^63 when multiplied by `raised`.
@@ -95,61 +26,43 @@ pub struct Shift {
     pub below: u64,
 }
 
-// 2^k and 2^(63 − k), from one copy of the table.
+// 2^k and 2^(63 − k).
 pub fn powers(k: usize) -> Shift
     requires { k < 64 }
     ensures { (result.raised ≡ 2 ^ k) × (result.below ≡ 2 ^ (63 - k)) }
 {
-    let table = POWERS;
     Shift {
-        raised: table[k],
-        below: table[63 - k],
+        raised: power(k),
+        below: power(63 - k),
     }
-}
-
-pub(crate) fn wide(x: u8) -> u64
-    ensures { (result ≡ x) × (result < 256) }
-{
-    x as u64
 }
 
 pub fn small(x: u8) -> usize
     ensures { (result ≡ x) × (result < 256) }
 {
-    x as usize
+    usize::from(x)
 }
 
-// Eight bytes, the lowest first.
-pub(crate) fn eight(s: &[u8], at: usize) -> u64
+// The eight bytes from `at` on.
+fn eight(s: &[u8], at: usize) -> [u8; 8]
     requires { at + 8 ≤ length s.now }
-    ensures sum { result ≡ eight_at s.now at }
-    ensures low { (get_or s.now at 0 < 256) × (get_or s.now (at + 1) 0 < 256) × (get_or s.now (at + 2) 0 < 256) }
+    ensures { result ≡ take 8 (drop at s.now) }
 {
-    wide(s[at])
-        + wide(s[at + 1]) * 0x100
-        + wide(s[at + 2]) * 0x1_0000
-        + wide(s[at + 3]) * 0x100_0000
-        + wide(s[at + 4]) * 0x1_0000_0000
-        + wide(s[at + 5]) * 0x100_0000_0000
-        + wide(s[at + 6]) * 0x1_0000_0000_0000
-        + wide(s[at + 7]) * 0x100_0000_0000_0000
+    *s[at..].first_chunk().unwrap()
 }
 
-// A 64-bit word read as a signed number.
-fn to_signed(n: u64) -> i64
-    ensures { result ≡ signed64 n }
+// The little-endian number at byte `at`.
+pub(crate) fn natural_at(s: &[u8], at: usize) -> u64
+    requires { at + 8 ≤ length s.now }
+    ensures { result ≡ little_endian (take 8 (drop at s.now)) }
 {
-    if n < 0x8000_0000_0000_0000 {
-        n as i64
-    } else {
-        -1 - ((0xffff_ffff_ffff_ffff - n) as i64)
-    }
+    u64::from_le_bytes(eight(s, at))
 }
 
-// The signed 64-bit little-endian number at byte `at`.
+// The signed one.
 pub(crate) fn number_at(s: &[u8], at: usize) -> i64
     requires { at + 8 ≤ length s.now }
     ensures { result ≡ word_at s.now at }
 {
-    to_signed(eight(s, at))
+    i64::from_le_bytes(eight(s, at))
 }

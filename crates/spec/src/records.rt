@@ -1,33 +1,23 @@
 // Records, read where they lie in the caller's bytes.
-ghost use Rattle.std.specs.Prelude.{◌≡◌, ◌+◌, ◌/◌, ◌≤◌, ◌<◌, length};
+#![tactic(auto, using(crate::proofs::Fields::parts))]
+
+ghost use Rattle.std.specs.Prelude.{◌≡◌, ◌/◌, ◌<◌, length};
 ghost use Rattle.spec.specs.Record.{record_at};
-ghost use Rattle.spec.specs.Code.{five_at, as_kind, as_record, kind_number, lead_of, InBytes};
+ghost use Rattle.spec.specs.Code.{as_kind, as_record, kind_number, lead_of, InBytes};
 
 use crate::kinds::Kind;
-use crate::numbers::{eight, number_at, small, wide};
+use crate::numbers::{natural_at, number_at, small};
 
-// A record: its kind's number, a, b, the five bytes that no kind uses as one number, p, q, r.
+// A record: its kind, a, b, the five bytes that no kind uses as one number, p, q, r.
 #[derive(Clone, Copy)]
 pub struct Record {
-    pub code: u8,
+    pub kind: Kind,
     pub a: usize,
     pub b: usize,
     pub padding: u64,
     pub p: i64,
     pub q: i64,
     pub r: i64,
-}
-
-// Five bytes, the lowest first.
-fn five(s: &[u8], at: usize) -> u64
-    requires { at + 5 ≤ length s.now }
-    ensures { result ≡ five_at s.now at }
-{
-    wide(s[at])
-        + wide(s[at + 1]) * 0x100
-        + wide(s[at + 2]) * 0x1_0000
-        + wide(s[at + 3]) * 0x100_0000
-        + wide(s[at + 4]) * 0x1_0000_0000
 }
 
 // The parts of record i, counting from 0.
@@ -81,20 +71,21 @@ pub(crate) fn r_at(file: &[u8], i: usize) -> i64
     number_at(file, i * 32 + 24)
 }
 
-fn padding_at(file: &[u8], i: usize) -> u64
-    requires { i < length file.now / 32 }
-    ensures { result ≡ (record_at file.now i).padding }
-{
-    five(file, i * 32 + 3)
-}
-
 // The first eight bytes of record i, as one number.
 pub(crate) fn lead_at(file: &[u8], i: usize) -> u64
     requires { i < length file.now / 32 }
     ensures sum { result ≡ lead_of (record_at file.now i) }
     ensures bytes { InBytes (record_at file.now i) }
 {
-    eight(file, i * 32)
+    natural_at(file, i * 32)
+}
+
+// The last five of them.
+fn padding_at(file: &[u8], i: usize) -> u64
+    requires { i < length file.now / 32 }
+    ensures { result ≡ (record_at file.now i).padding }
+{
+    lead_at(file, i) >> 24
 }
 
 // Record i, counting from 0.
@@ -104,7 +95,7 @@ pub fn record_at(file: &[u8], i: usize) -> Record
     ensures bytes { (result.a < 256) × (result.b < 256) }
 {
     Record {
-        code: code_at(file, i),
+        kind: kind_at(file, i),
         a: a_at(file, i),
         b: b_at(file, i),
         padding: padding_at(file, i),

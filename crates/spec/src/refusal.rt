@@ -1,6 +1,7 @@
 // What a refused call answers.
 ghost use Rattle.std.specs.Prelude.{◌≡◌};
-ghost use Rattle.spec.specs.Code.{fault_number};
+ghost use Rattle.spec.specs.Refusal.{refuse};
+ghost use Rattle.spec.specs.Code.{as_fault, as_refused, fault_number, number_of, refusal};
 
 // Why a call is refused, in the order of the numbers that files, listings and other languages have for it.
 #[derive(Clone, Copy, PartialEq, Eq)]
@@ -64,9 +65,28 @@ impl From<Fault> for u8 {
     }
 }
 
-// The number, and the record from 1 on, or 0 for the whole; number 0 is no refusal.
-#[derive(Clone, Copy)]
+// The fault, and the record from 1 on, or 0 for the whole.
+#[derive(Clone, Copy, PartialEq, Eq)]
 pub struct Refusal {
-    pub number: u8,
+    pub fault: Fault,
     pub record: usize,
+}
+
+impl Fault {
+    // The refusal for this fault of a record, which is counted from 1; 0 for the whole.
+    pub fn at(self, number: usize) -> Refusal
+        ensures { as_refused result ≡ refusal self number }
+    {
+        Refusal {
+            fault: self,
+            record: number,
+        }
+    }
+}
+
+// A record that was judged is refused, if it has a fault.
+pub(crate) fn refuse_at(judged: Result<(), Fault>, number: usize) -> Result<(), Refusal>
+    ensures { as_fault result ≡ refuse (number_of judged) number }
+{
+    judged.map_err(|fault| fault.at(number))
 }

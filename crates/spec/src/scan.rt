@@ -1,248 +1,140 @@
 // Refusals 2 to 9, in one pass over the records.
-ghost use Rattle.std.specs.Prelude.{◌≡◌, true, false, ◌/◌, ◌≤◌, ◌<◌, length};
-ghost use Rattle.spec.specs.Kind.{kind_of, is_member};
+ghost use Rattle.std.specs.Prelude.{◌≡◌, true, false, ◌+◌, ◌-◌, ◌/◌, ◌≤◌, ◌<◌, length, take, drop};
+ghost use Rattle.spec.specs.Kind.{is_member};
 ghost use Rattle.spec.specs.Record.{records_of, record_at};
-ghost use Rattle.spec.specs.Refusal.{after_head, records_fault};
-ghost use Rattle.spec.specs.Code.{as_record, as_context, as_fault, table_words, left_at, after_turn, turn_good, Reached, Counted, state_context};
+ghost use Rattle.spec.specs.Refusal.{list_fault, records_fault, refuse};
+ghost use Rattle.spec.specs.Code.{after_turn, as_fault, as_kind, as_record, left_at, turn_good};
 
+use crate::context::Context;
 use crate::domains::part;
-use crate::faults::{belongs_to, head_fault, list_fault, member_fault, misfiled_fault};
-use crate::judge::Context;
-use crate::kinds::{Class, ROWS, class_of, is_member, row_in};
-use crate::plain::{plain_end, plain_kind, plain_lead};
+use crate::faults::{belongs_to, judge_head, judge_list, judge_member, misfiled_fault};
+use crate::kinds::{List, Section, row_of};
+use crate::plain::{ITEM, PAIR, VALUE, plain_end};
 use crate::records::{Record, record_at};
-use crate::refusal::Refusal;
+use crate::refusal::{Fault, Refusal, refuse_at};
 
-// The fields, the constraints and the section so far, and the last head's record, counted from 0.
+// The context after the last head, and that head's record, counted from 0.
 #[derive(Clone, Copy)]
 pub struct State {
-    pub fields: usize,
-    pub constraints: usize,
-    pub section: u8,
+    pub context: Context,
     pub head: usize,
 }
 
-#[derive(Clone, Copy)]
-pub enum Turn {
-    Next(State),
-    Bad(Refusal),
-}
-
-fn context_of(st: State) -> Context
-    ensures { as_context result ≡ state_context st }
+// The list of the open head, whose members end before record `end`.
+fn close_list(file: &[u8], head: usize, end: usize) -> Result<(), Refusal>
+    requires { (head < end) × (end ≤ length file.now / 32) }
+    ensures { as_fault result ≡ refuse (list_fault (record_at file.now head).kind (record_at file.now head) (take (end - (head + 1)) (drop (head + 1) (records_of file.now)))) (head + 1) }
 {
-    Context {
-        fields: st.fields,
-        constraints: st.constraints,
-        section: st.section,
-    }
-}
-
-// The state after head i.
-fn after_head(code: u8, c: Context, i: usize) -> State
-    requires { (c.fields ≤ i) × (c.constraints ≤ i) × (i < 65536) }
-    ensures { Reached (after_head (kind_of code) (as_context c)) i result }
-{
-    match class_of(code) {
-        Class::Field => State {
-            fields: c.fields + 1,
-            constraints: c.constraints,
-            section: c.section,
-            head: i,
-        },
-        Class::Constraint => State {
-            fields: c.fields,
-            constraints: c.constraints + 1,
-            section: 1,
-            head: i,
-        },
-        Class::Projector => State {
-            fields: c.fields,
-            constraints: c.constraints,
-            section: 2,
-            head: i,
-        },
-        Class::Member => State {
-            fields: c.fields,
-            constraints: c.constraints,
-            section: c.section,
-            head: i,
-        },
-        Class::Unknown => State {
-            fields: c.fields,
-            constraints: c.constraints,
-            section: c.section,
-            head: i,
-        },
-    }
+    let number = head + 1;
+    refuse_at(
+        judge_list(record_at(file, head), part(file, number, end)),
+        number,
+    )
 }
 
 // Record i is a head: it closes the list before it, and opens its own.
-fn head_turn(rows: &[u32], file: &[u8], i: usize, st: State, m: Record) -> Turn
-    requires { (st.head < i) × (i < length file.now / 32) × (length file.now ≤ 65536) × (as_record m ≡ record_at file.now i) × (is_member (kind_of m.code) ≡ false) × Counted st × (rows.now ≡ table_words) }
-    ensures { (left_at file.now st i ≡ after_turn file.now i result) × turn_good i result }
+fn take_head(file: &[u8], i: usize, state: State, m: Record) -> Result<State, Refusal>
+    requires { (state.head < i) × (i < length file.now / 32) × (as_record m ≡ record_at file.now i) × (is_member (as_kind m.kind) ≡ false) }
+    ensures { (left_at file.now state i ≡ after_turn file.now i result) × turn_good i result }
 {
-    let head = st.head;
-    let h = record_at(file, head);
-    let whole = list_fault(h, part(file, head + 1, i));
-    if whole != 0 {
-        return Turn::Bad(Refusal {
-            number: whole,
-            record: head + 1,
-        });
-    }
-    let c = context_of(st);
-    let own = head_fault(rows, m, c);
-    if own != 0 {
-        return Turn::Bad(Refusal {
-            number: own,
-            record: i + 1,
-        });
-    }
-    Turn::Next(after_head(m.code, c, i))
-}
-
-// Record i is a member: of the open list, or of none.
-fn member_turn(rows: &[u32], file: &[u8], i: usize, st: State, m: Record) -> Turn
-    requires { (st.head < i) × (i < length file.now / 32) × (length file.now ≤ 65536) × (as_record m ≡ record_at file.now i) × (m.a < 256) × (m.b < 256) × (is_member (kind_of m.code) ≡ true) × Counted st × (rows.now ≡ table_words) }
-    ensures { (left_at file.now st i ≡ after_turn file.now i result) × turn_good i result }
-{
-    let head = st.head;
-    let h = record_at(file, head);
-    let before = part(file, head + 1, i);
-    if belongs_to(rows, h, m) {
-        let own = member_fault(rows, h, st.fields, before, m);
-        if own != 0 {
-            return Turn::Bad(Refusal {
-                number: own,
-                record: i + 1,
-            });
-        }
-        return Turn::Next(st);
-    }
-    let whole = list_fault(h, before);
-    if whole != 0 {
-        return Turn::Bad(Refusal {
-            number: whole,
-            record: head + 1,
-        });
-    }
-    Turn::Bad(Refusal {
-        number: misfiled_fault(rows, m),
-        record: i + 1,
+    close_list(file, state.head, i)?;
+    refuse_at(judge_head(m, state.context), i + 1)?;
+    Ok(State {
+        context: state.context.after(m.kind),
+        head: i,
     })
 }
 
-fn step(rows: &[u32], file: &[u8], i: usize, st: State) -> Turn
-    requires { (st.head < i) × (i < length file.now / 32) × (length file.now ≤ 65536) × Counted st × (rows.now ≡ table_words) }
-    ensures { (left_at file.now st i ≡ after_turn file.now i result) × turn_good i result }
+// Record i is a member: of the open list, or of none.
+fn take_member(file: &[u8], i: usize, state: State, m: Record) -> Result<State, Refusal>
+    requires { (state.head < i) × (i < length file.now / 32) × (as_record m ≡ record_at file.now i) × (is_member (as_kind m.kind) ≡ true) }
+    ensures { (left_at file.now state i ≡ after_turn file.now i result) × turn_good i result }
+{
+    let head = record_at(file, state.head);
+    if !belongs_to(head, m) {
+        close_list(file, state.head, i)?;
+        return Err(misfiled_fault(m).at(i + 1));
+    }
+    let before = part(file, state.head + 1, i);
+    refuse_at(judge_member(head, state.context.fields, before, m), i + 1)?;
+    Ok(state)
+}
+
+fn take(file: &[u8], i: usize, state: State) -> Result<State, Refusal>
+    requires { (state.head < i) × (i < length file.now / 32) }
+    ensures { (left_at file.now state i ≡ after_turn file.now i result) × turn_good i result }
 {
     let m = record_at(file, i);
-    if is_member(m.code) {
-        return member_turn(rows, file, i, st, m);
+    if m.kind.is_member() {
+        take_member(file, i, state, m)
+    } else {
+        take_head(file, i, state, m)
     }
-    head_turn(rows, file, i, st, m)
 }
 
 // After the last record.
-fn close(file: &[u8], st: State) -> Refusal
-    requires { (st.head < length file.now / 32) × (length file.now ≤ 65536) }
-    ensures { as_fault result ≡ left_at file.now st (length file.now / 32) }
+fn close(file: &[u8], state: State) -> Result<(), Refusal>
+    requires { state.head < length file.now / 32 }
+    ensures { as_fault result ≡ left_at file.now state (length file.now / 32) }
 {
     let n = file.len() / 32;
-    let head = st.head;
-    let h = record_at(file, head);
-    let whole = list_fault(h, part(file, head + 1, n));
-    if whole != 0 {
-        return Refusal {
-            number: whole,
-            record: head + 1,
-        };
-    }
-    if st.section == 2 {
-        return Refusal {
-            number: 0,
-            record: 0,
-        };
-    }
-    Refusal {
-        number: 4,
-        record: n + 1,
+    close_list(file, state.head, n)?;
+    if state.context.section == Section::Projector {
+        Ok(())
+    } else {
+        Err(Fault::OutOfOrder.at(n + 1))
     }
 }
 
-// Passes plain members from record i on: what is left to judge is the same. For pairs the compiler makes a loop of its own.
-fn pass_plain(rows: &[u32], file: &[u8], st: State, i: usize) -> usize
-    requires { (st.head < i) × (i ≤ length file.now / 32) × (rows.now ≡ table_words) }
-    ensures { (i ≤ result) × (result ≤ length file.now / 32) × (left_at file.now st i ≡ left_at file.now st result) }
+// Passes plain members from record i on: what is left to judge is the same.
+fn pass_plain(file: &[u8], state: State, i: usize) -> usize
+    requires { (state.head < i) × (i ≤ length file.now / 32) }
+    ensures { (i ≤ result) × (result ≤ length file.now / 32) × (left_at file.now state i ≡ left_at file.now state result) }
 {
-    let head = st.head;
-    let h = record_at(file, head);
-    let w = row_in(rows, h.code, h.b);
-    let kind = plain_kind(w.list);
-    if kind == 0 {
-        return i;
+    let head = record_at(file, state.head);
+    match row_of(head.kind, head.b).list {
+        List::Values => plain_end(file, i, VALUE + head.a as u64 * 0x100),
+        List::Items => plain_end(file, i, ITEM),
+        List::Entries => plain_end(file, i, PAIR),
+        List::Nothing | List::Disables | List::Assigns | List::Axes => i,
     }
-    let lead = plain_lead(kind, h.a);
-    if kind == 4 {
-        return plain_end(file, i, 4, lead);
-    }
-    plain_end(file, i, kind, lead)
 }
 
 // The records after the first, which is a head.
-fn scan_from(rows: &[u32], file: &[u8], first: State) -> Refusal
-    requires { (first.head < 1) × (1 ≤ length file.now / 32) × (length file.now ≤ 65536) × Counted first × (rows.now ≡ table_words) }
+fn scan_from(file: &[u8], first: State) -> Result<(), Refusal>
+    requires { (first.head < 1) × (1 ≤ length file.now / 32) }
     ensures { as_fault result ≡ left_at file.now first 1 }
 {
     let n = file.len() / 32;
-    let mut st = first;
-    let mut i = pass_plain(rows, file, first, 1);
+    let mut state = first;
+    let mut i = pass_plain(file, state, 1);
+    // No `for`: the index goes on past runs of plain members.
     while i < n {
-        let t = step(rows, file, i, st);
-        match t {
-            Turn::Bad(x) => {
-                return x;
-            }
-            Turn::Next(s) => {
-                st = s;
-            }
-        }
-        i = pass_plain(rows, file, st, i + 1);
+        state = take(file, i, state)?;
+        i = pass_plain(file, state, i + 1);
     }
-    close(file, st)
+    close(file, state)
 }
 
 // Refusals 2 to 9.
-pub(crate) fn scan(file: &[u8]) -> Refusal
-    requires { length file.now ≤ 65536 }
+pub(crate) fn scan(file: &[u8]) -> Result<(), Refusal>
     ensures { as_fault result ≡ records_fault (records_of file.now) }
 {
-    if file.len() < 32 {
-        return Refusal {
-            number: 4,
-            record: 1,
-        };
+    let is_empty = file.len() < 32;
+    if is_empty {
+        return Err(Fault::OutOfOrder.at(1));
     }
-    let rows = ROWS;
     let m = record_at(file, 0);
-    if is_member(m.code) {
-        return Refusal {
-            number: misfiled_fault(&rows, m),
-            record: 1,
-        };
+    if m.kind.is_member() {
+        return Err(misfiled_fault(m).at(1));
     }
-    let c = Context {
-        fields: 0,
-        constraints: 0,
-        section: 0,
-    };
-    let own = head_fault(&rows, m, c);
-    if own != 0 {
-        return Refusal {
-            number: own,
-            record: 1,
-        };
-    }
-    scan_from(&rows, file, after_head(m.code, c, 0))
+    let context = Context::new();
+    refuse_at(judge_head(m, context), 1)?;
+    scan_from(
+        file,
+        State {
+            context: context.after(m.kind),
+            head: 0,
+        },
+    )
 }

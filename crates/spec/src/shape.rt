@@ -5,12 +5,11 @@ ghost use Rattle.lists.specs.Lists.{product};
 ghost use Rattle.spec.specs.Record.{records_of, decoded};
 ghost use Rattle.spec.specs.Refusal.{records_fault};
 ghost use Rattle.spec.specs.Shape.{stands_at};
-ghost use Rattle.spec.specs.Code.{capped, lengths};
+ghost use Rattle.spec.specs.Code.{capped, lengths, section_at, section_number};
 
 use crate::domains::{domain_len, members, members_end};
-use crate::kinds::section_of;
-use crate::records::record_at;
-use crate::walker::{Head, next_head};
+use crate::kinds::Section;
+use crate::records::{kind_at, record_at};
 
 // A total may be this, and no more.
 pub const LIMIT: usize = 1_000_000_000;
@@ -32,16 +31,20 @@ pub struct Constraints {
 
 // a × b, which stops growing above the limit.
 fn times(a: usize, b: usize) -> usize
-    requires { a ≤ 1000000001 }
     ensures { result ≡ capped (a * b) }
 {
-    if a == 0 {
-        return 0;
+    a.saturating_mul(b).min(LIMIT + 1)
+}
+
+// The section of record i; neither at the end of the file.
+fn section_at(file: &[u8], i: usize) -> Section
+    ensures { section_number result ≡ section_at file.now i }
+{
+    if i < file.len() / 32 {
+        kind_at(file, i).section()
+    } else {
+        Section::Neither
     }
-    if LIMIT / a < b {
-        return LIMIT + 1;
-    }
-    a * b
 }
 
 // Goes from field to field, past the values of each.
@@ -52,32 +55,18 @@ pub(crate) fn fields_of(file: &[u8]) -> Fields
     ensures product { result.product ≡ capped (product (lengths (decoded file.now).fields)) }
 {
     let mut count = 0;
-    let mut t = 1;
+    let mut product = 1;
     let mut i = 0;
-    loop {
-        let head = next_head(file, i);
-        match head {
-            Head::End => {
-                return Fields {
-                    count,
-                    end: i,
-                    product: t,
-                };
-            }
-            Head::Code(code) => {
-                if code != 1 {
-                    return Fields {
-                        count,
-                        end: i,
-                        product: t,
-                    };
-                }
-            }
-        }
+    while section_at(file, i) == Section::Fields {
         let values = members(file, i).len() / 32;
-        t = times(t, domain_len(record_at(file, i), values));
+        product = times(product, domain_len(record_at(file, i), values));
         count += 1;
         i += 1 + values;
+    }
+    Fields {
+        count,
+        end: i,
+        product,
     }
 }
 
@@ -89,29 +78,18 @@ pub(crate) fn constraints_of(file: &[u8], from: usize) -> Constraints
 {
     let mut count = 0;
     let mut i = from;
-    loop {
-        let head = next_head(file, i);
-        match head {
-            Head::End => {
-                return Constraints { count, end: i };
-            }
-            Head::Code(code) => {
-                if section_of(code) != 1 {
-                    return Constraints { count, end: i };
-                }
-            }
-        }
+    while section_at(file, i) == Section::Constraints {
         count += 1;
         i = members_end(file, i);
     }
+    Constraints { count, end: i }
 }
 
-// The total, which stops growing above the limit; 0 with no fields.
-pub(crate) fn total_of(f: Fields) -> usize
-    ensures { result ≡ cond (eqb f.count 0) 0 f.product }
-{
-    if f.count == 0 {
-        return 0;
+impl Fields {
+    // The total, which stops growing above the limit; 0 with no fields.
+    pub(crate) fn total(self) -> usize
+        ensures { result ≡ cond (eqb self.count 0) 0 self.product }
+    {
+        if self.count == 0 { 0 } else { self.product }
     }
-    f.product
 }

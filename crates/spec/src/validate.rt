@@ -4,9 +4,9 @@ ghost use Rattle.spec.specs.Refusal.{answer, file_fault};
 ghost use Rattle.spec.specs.Shape.{shape_of};
 ghost use Rattle.spec.specs.Code.{as_answer};
 
-use crate::refusal::Refusal;
+use crate::refusal::{Fault, Refusal};
 use crate::scan::scan;
-use crate::shape::{LIMIT, constraints_of, fields_of, total_of};
+use crate::shape::{LIMIT, constraints_of, fields_of};
 
 // An accepted file: how many fields and constraints, the records before the first constraint and before the projector, the total.
 #[derive(Clone, Copy)]
@@ -18,36 +18,22 @@ pub struct Shape {
     pub total: usize,
 }
 
-#[derive(Clone, Copy)]
-pub enum Validation {
-    Accepted(Shape),
-    Refused(Refusal),
-}
-
-pub fn validate(file: &[u8]) -> Validation
+pub fn validate(file: &[u8]) -> Result<Shape, Refusal>
     ensures { as_answer result ≡ answer (file_fault file.now) (shape_of file.now) }
 {
     let len = file.len();
     if (len % 32 != 0) | (65536 < len) {
-        return Validation::Refused(Refusal {
-            number: 1,
-            record: 0,
-        });
+        return Err(Fault::WrongLength.at(0));
     }
-    let fault = scan(file);
-    if fault.number != 0 {
-        return Validation::Refused(fault);
-    }
+    scan(file)?;
     let fields = fields_of(file);
-    let total = total_of(fields);
-    if LIMIT < total {
-        return Validation::Refused(Refusal {
-            number: 10,
-            record: 0,
-        });
+    let total = fields.total();
+    let is_too_large = LIMIT < total;
+    if is_too_large {
+        return Err(Fault::TooLarge.at(0));
     }
     let constraints = constraints_of(file, fields.end);
-    Validation::Accepted(Shape {
+    Ok(Shape {
         fields: fields.count,
         constraints: constraints.count,
         constraints_at: fields.end,

@@ -1,13 +1,10 @@
 -- `spec::plain::plain_end` meets its contract. The invariant: the records before k are plain.
 use mathlib.Core.Bool.{true}
 use mathlib.Core.Path.{◌≡◌}
-use Prim.Native.Nat.{◌-◌, ◌<◌, ◌≤◌, ℕ}
+use Prim.Native.Nat.{◌<◌, ◌≤◌, ℕ}
 use Rattle.spec.specs.Code.{InBytes, is_plain}
 use Rattle.spec.specs.Record.{record_at}
 use Rattle.spec.proofs.plain.plain_end.Given as goal
 
 abbrev pub invariant-loop-k : goal.invariant-loop-k
-invariant-loop-k l = (l.i ≤ l.k) × (l.k ≤ l.n) × ((j : ℕ) → l.i ≤ j → j < l.k → (is_plain l.kind l.lead (record_at l.file j) ≡ true) × InBytes (record_at l.file j))
-
-abbrev pub decreases-loop-k : goal.decreases-loop-k
-decreases-loop-k l = l.n - l.k
+invariant-loop-k l = (j : ℕ) → l.i ≤ j → j < l.k → (is_plain l.lead (record_at l.file j) ≡ true) × InBytes (record_at l.file j)

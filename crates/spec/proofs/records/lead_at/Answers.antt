@@ -6,7 +6,10 @@ use Rattle.spec.proofs.Fields.{a_of, b_of, code_of, padding_of}
 use Rattle.spec.proofs.Words.{lead_word}
 use Rattle.spec.proofs.records.lead_at.Goals as goal
 
-pub returns : goal.returns
-returns c =
-    let low = c.eight.ensures.low in
-    record { sum = rw (code_of, a_of, b_of, padding_of) (c.eight.ensures.sum ∙ lead_word c.args.file.now (c.args.i * 32) (omega arith)); bytes = record { code-low = rw code_of low.0; a-low = rw a_of low.1; b-low = rw b_of low.2 } }
+pub returns-clause-sum : goal.returns-clause-sum
+returns-clause-sum c = rw (code_of, a_of, b_of, padding_of) (c.natural_at.ensures ∙ lead_word c.args.file.now (c.args.i * 32) (omega arith))
+
+pub returns-clause-bytes : goal.returns-clause-bytes
+returns-clause-bytes c =
+    let byte = c.type_inv.file in
+    record { code-low = rw code_of (byte _).fits; a-low = rw a_of (byte _).fits; b-low = rw b_of (byte _).fits }

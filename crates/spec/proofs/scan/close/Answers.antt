@@ -1,28 +1,32 @@
 -- `spec::scan::close` meets its contract: the last list is judged, then the end.
-use mathlib.Core.Bool.{Bool, cond}
-use mathlib.Core.Option.{none}
-use mathlib.Core.Path.{◌∙◌, ◌≡◌, ap, sym}
-use Prim.Native.Nat.{◌+◌, ◌/◌}
+use Rattle.std.proofs.Common.{rules, ◌≡◌, ◌∙◌, ap, refl, sym, ◌+◌, ◌/◌, ◌≤◌, Bool, length}
+use mathlib.Core.Bool.{cond}
+use mathlib.Core.Option.{none, some}
 use native.Mathlib.Omega.{arith}
 use lib.Dec.{eqb}
-use lib.ListN.{length}
-use Rattle.lists.proofs.Tests.{eqb_no, eqb_yes}
-use Rattle.spec.specs.Code.{left_at}
-use Rattle.spec.specs.Refusal.{◌▷◌, refuse}
-use Rattle.spec.proofs.Turns.{at_end, refuse-none, refuse_stops}
-use Rattle.spec.proofs.scan.close.Goals.{After-list_fault-whole}
+use Rattle.std.proofs.lemmas.Result.{err_from_is_err_and}
+use Rattle.spec.specs.Code.{as_refused, section_number}
+use Rattle.spec.specs.Refusal.{refuse}
+use Rattle.spec.proofs.Turns.{at_end}
 use Rattle.spec.proofs.scan.close.Goals as goal
 
--- what is left at the end
-here : (c : After-list_fault-whole) → left_at c.args.file.now c.args.st (length c.args.file.now / 32)
-    ≡ refuse c.list_fault-whole.result (c.args.st.head + 1) ▷ cond (eqb c.args.st.section 2) none (refuse 4 (length c.args.file.now / 32 + 1))
-here c = at_end c.args.file.now c.args.st _ _ (length c.args.file.now / 32) c.record_at-h.ensures.read c.part.ensures.records c.list_fault-whole.result c.list_fault-whole.ensures (omega arith)
+pub returns-in_err-close_list : goal.returns-in_err-close_list
+returns-in_err-close_list c =
+    let n = length c.args.file.now / 32 in
+    let end : n ≤ n = omega arith in
+    let p = err_from_is_err_and c.from_residual.result c.from_residual.ensures.1 in
+    rw (p.1, p.2) (sym (at_end c.args.file.now c.args.state _ _ n refl refl (some (as_refused c.in_err-close_list.field-0.0)) c.in_err-close_list.ensures end))
 
-pub returns-then-whole-ne0 : goal.returns-then-whole-ne0
-returns-then-whole-ne0 c = sym (here (goal.at.returns-then-whole-ne0 c).After-list_fault-whole ∙ refuse_stops c.list_fault-whole.result _ _ c.if-whole-ne0.true)
+pub returns-then-eq : goal.returns-then-eq
+returns-then-eq c =
+    let n = length c.args.file.now / 32 in
+    let end : n ≤ n = omega arith in
+    let last : c.eq.result ≡ eqb (section_number c.args.state.context.section) 2 = search rules in
+    sym (at_end c.args.file.now c.args.state _ _ n refl refl none c.in_ok-close_list.ensures end ∙ ap (λ (b : Bool). cond b none (refuse 4 (n + 1))) (sym last ∙ c.if-eq.true))
 
-pub returns-then-st-eq2 : goal.returns-then-st-eq2
-returns-then-st-eq2 c = sym (here (goal.at.returns-then-st-eq2 c).After-list_fault-whole ∙ refuse-none c.list_fault-whole.result _ _ c.if-whole-ne0.false ∙ ap (λ (b : Bool). cond b none (refuse 4 (length c.args.file.now / 32 + 1))) (eqb_yes c.args.st.section 2 c.if-st-eq2.true))
-
-pub returns : goal.returns
-returns c = sym (here (goal.at.returns c).After-list_fault-whole ∙ refuse-none c.list_fault-whole.result _ _ c.if-whole-ne0.false ∙ ap (λ (b : Bool). cond b none (refuse 4 (length c.args.file.now / 32 + 1))) (eqb_no c.args.st.section 2 c.if-st-eq2.false))
+pub returns-else-eq : goal.returns-else-eq
+returns-else-eq c =
+    let n = length c.args.file.now / 32 in
+    let end : n ≤ n = omega arith in
+    let last : c.eq.result ≡ eqb (section_number c.args.state.context.section) 2 = search rules in
+    rw c.at.ensures (sym (at_end c.args.file.now c.args.state _ _ n refl refl none c.in_ok-close_list.ensures end ∙ ap (λ (b : Bool). cond b none (refuse 4 (n + 1))) (sym last ∙ c.if-eq.false)))

@@ -6,8 +6,8 @@ use Rattle.spec.proofs.Heads.{Gone}
 use Rattle.spec.proofs.Sections.{constraint-section}
 use Rattle.spec.proofs.shape.constraints_of.Given as goal
 
-abbrev pub invariant-loop-code : goal.invariant-loop-code
-invariant-loop-code l = Gone 1 is_constraint constraint-section l.file l.i l.count
+abbrev pub invariant-loop-count : goal.invariant-loop-count
+invariant-loop-count l = Gone 1 is_constraint constraint-section l.file l.i l.count
 
-abbrev pub decreases-loop-code : goal.decreases-loop-code
-decreases-loop-code l = length l.file / 32 - l.i
+abbrev pub decreases-loop-count : goal.decreases-loop-count
+decreases-loop-count l = length l.file / 32 - l.i

@@ -9,8 +9,8 @@ use Rattle.spec.proofs.Sections.{field_section}
 use Rattle.spec.proofs.Shapes.{product_from}
 use Rattle.spec.proofs.shape.fields_of.Given as goal
 
-abbrev pub invariant-loop-code : goal.invariant-loop-code
-invariant-loop-code l = Gone 0 is_field field_section l.file l.i l.count × (l.t ≤ 1000000001) × (capped (l.t * product_from l.file l.i) ≡ capped (product_from l.file 0))
+abbrev pub invariant-loop-values : goal.invariant-loop-values
+invariant-loop-values l = Gone 0 is_field field_section l.file l.i l.count × (l.product ≤ 1000000001) × (capped (l.product * product_from l.file l.i) ≡ capped (product_from l.file 0))
 
-abbrev pub decreases-loop-code : goal.decreases-loop-code
-decreases-loop-code l = length l.file / 32 - l.i
+abbrev pub decreases-loop-values : goal.decreases-loop-values
+decreases-loop-values l = length l.file / 32 - l.i

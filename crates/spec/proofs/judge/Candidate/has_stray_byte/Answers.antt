@@ -1,0 +1,21 @@
+use Rattle.std.proofs.Common.{rules, ◌≡◌, to_z-of_z, w64, SFits, sym}
+use Rattle.spec.specs.Code.{as_use}
+use Rattle.spec.specs.Kind.{is_unused}
+use Rattle.spec.proofs.judge.Candidate.has_stray_byte.Goals as goal
+
+pub returns : goal.returns
+returns c =
+    let h = c.args.self.given in
+    let w = c.args.self.row in
+    let e₁ : c.eq.result ≡ is_unused (as_use w.a) = search rules in
+    let e₂ : c.eq-2.result ≡ is_unused (as_use w.b) = search rules in
+    let e₃ : c.eq-3.result ≡ is_unused (as_use w.p) = search rules in
+    let e₄ : c.eq-4.result ≡ is_unused (as_use w.q) = search rules in
+    let e₅ : c.eq-5.result ≡ is_unused (as_use w.r) = search rules in
+    let p : SFits w64 h.p = search rules in
+    let q : SFits w64 h.q = search rules in
+    let r : SFits w64 h.r = search rules in
+    let z₁ = simp to_z-of_z at c.is_zero.ensures in
+    let z₂ = simp to_z-of_z at c.is_zero-2.ensures in
+    let z₃ = simp to_z-of_z at c.is_zero-3.ensures in
+    rw (sym c.args.self.looked_up, e₁, e₂, e₃, e₄, e₅, z₁, z₂, z₃)

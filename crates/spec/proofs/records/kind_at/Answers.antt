@@ -1,9 +1,0 @@
--- `spec::records::kind_at` meets its contract: the kind of a record is that of its code.
-use mathlib.Core.Path.{◌∙◌, ap}
-use Rattle.spec.specs.Kind.{kind_of}
-use Rattle.spec.specs.Record.{record_of}
-use Rattle.spec.proofs.records.kind_at.Goals as goal
-
-pub returns-clause-kind : goal.returns-clause-kind
-unfolding record_of
-returns-clause-kind c = c.from.ensures.0 ∙ ap kind_of c.code_at.ensures
