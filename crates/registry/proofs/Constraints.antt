@@ -1,11 +1,9 @@
 -- A constraint by its kind: the test of one value that it is, or of two.
-use mathlib.Core.Bool.{Bool, and-true, false, false≢true, not, true, true≢false}
+use mathlib.Core.Bool.{Bool, and-true, false, false≢true, true, true≢false}
 use mathlib.Core.List.{List, map}
 use mathlib.Core.Path.{◌≡◌, refl, sym}
 use lib.IntN.{negsuc, pos, ℤ}
-use Rattle.lists.specs.Integers.{elem_z, eq_z}
 use Rattle.lists.specs.Lists.{all}
-use Rattle.spec.specs.Code.{ps_of}
 use Rattle.spec.specs.Kind.{ConstraintKind, Kind, bitmask, constraint, cross, enable_mask, enable_set, eq, even, field, ge, gt, le, lt, member, neq, oneof, projector, range, unknown}
 use Rattle.spec.specs.Record.{Record, constraint_in, entry_of}
 use Rattle.spec.specs.Refusal.{negative}
@@ -66,14 +64,5 @@ module _ (row : List ℤ) (h : Record) (ms : List Record) where
   of_one (projector k) e = refl
   of_one (member k) e = refl
 
-  pub of_eq : eq_z (value_at row h.a) (value_at row h.b) ≡ checked (constraint eq)
-  of_eq = sym (and-true _)
-
-  pub of_neq : not (eq_z (value_at row h.a) (value_at row h.b)) ≡ checked (constraint neq)
-  of_neq = sym (and-true _)
-
   pub of_cross : cross_allows (map entry_of ms) (value_at row h.a) (value_at row h.b) ≡ checked (constraint cross)
   of_cross = sym (and-true _)
-
-  pub of_oneof : elem_z (value_at row h.a) (ps_of ms) ≡ checked (constraint oneof)
-  of_oneof = sym (and-true _)

@@ -1,24 +1,23 @@
 -- Words below 2^63, and the turns of the loop that adds up the digits.
-use mathlib.Core.Bool.{Bool, cond, false, true, true≢false}
+use mathlib.Core.Bool.{Bool, cond, false, true}
 use mathlib.Core.List.{List, [], ◌∷◌, map}
 use mathlib.Core.Option.{Option, none, some}
 use mathlib.Core.Path.{◌∙◌, ◌≡◌, ap, refl, subst, sym}
 use Prim.Native.Nat.{◌%◌, ◌*◌, ◌+◌, ◌-◌, ◌/◌, ◌<◌, ◌^◌, ◌≤◌, suc, zero, ℕ}
 use native.Mathlib.Numerals.{add-one}
 use native.Mathlib.Omega.{arith}
-use lib.Dec.{T, ltb}
+use lib.Dec.{ltb}
 use Rattle.std.specs.Prelude.{Some, None}
-use lib.IntN.{nat_abs, negsuc, pos, ℤ}
+use lib.IntN.{nat_abs, pos, ℤ}
 use lib.ListN.{drop, drop_of_length-le, length}
-use lib.Signed.{le_z, lt_z, non_neg}
 use Rattle.lists.proofs.All.{All, All_at}
 use Rattle.lists.proofs.Range.{in_range}
-use Rattle.lists.proofs.Tests.{ltb_no, ltb_yes, no_ge, yes_le, yes_lt}
-use Rattle.spec.specs.Record.{Record, axis_of, offset_by, record_at, records_of}
+use Rattle.lists.proofs.Tests.{ltb_no, ltb_yes, no_ge, yes_lt}
+use Rattle.spec.specs.Record.{Record, axis_of, record_at, records_of}
 use Rattle.spec.specs.Spec.{Axis, AxisSpec}
 use Rattle.spec.proofs.Fields.{length_records, record_get_d, records_from}
 use Rattle.registry.specs.Code.{AxisIn, digit_of, rest_of, word_by, word_of}
-use Rattle.registry.specs.Project.{at_offset, fitting}
+use Rattle.registry.specs.Project.{fitting}
 use Rattle.registry.proofs.Packing.{digits_from, shift_fits}
 
 -- ---- words
@@ -49,23 +48,7 @@ raised_below v k h l = yes_lt (v * 2 ^ k) (2 ^ 63) (shift_fits v k (omega arith)
 pub raised_over : (v k : ℕ) → k < 64 → 2 ^ (63 - k) ≤ v → 2 ^ 63 ≤ v * 2 ^ k
 raised_over v k h l = no_ge (v * 2 ^ k) (2 ^ 63) (shift_fits v k (omega arith) ∙ ltb_no v (2 ^ (63 - k)) l)
 
-pub offset_absent : (v : ℕ) (offset : ℤ) → lt_z offset (pos 0) ≡ true → word_by true 0 ≡ word_of (at_offset (offset_by offset) v)
-offset_absent v (pos k) e = absurd (let h = yes_lt k 0 e in omega arith)
-offset_absent v (negsuc k) e = refl
-
-pub offset_at : (v : ℕ) (offset : ℤ) → lt_z offset (pos 0) ≡ false → le_z offset (pos 63) ≡ true
-    → T (non_neg offset) × (nat_abs offset < 64) × (v * 2 ^ nat_abs offset ≡ at_offset (offset_by offset) v)
-offset_at v (pos k) e l = let h = yes_le k 63 l in (tt, omega arith, refl)
-offset_at v (negsuc k) e l = absurd (true≢false e)
-
 -- ---- digits
-pub digit_is : (radix v : ℕ) → ¬ (radix ≡ 0) → v % radix ≡ digit_of radix v
-digit_is zero v n = absurd (n refl)
-digit_is (suc r) v n = refl
-
-pub rest_is : (radix v : ℕ) → ¬ (radix ≡ 0) → v / radix ≡ rest_of radix v
-rest_is zero v n = absurd (n refl)
-rest_is (suc r) v n = refl
 
 -- An axis without radix has no room for what is left.
 pub axis_full : (word width shift radix : ℕ) (axes : List AxisSpec) (v : ℕ) → radix ≡ 0 → 2 ^ width ≤ v → digits_from word (Axis width shift radix ∷ axes) v ≡ none

@@ -6,13 +6,10 @@ use native.Mathlib.Omega.{arith}
 use lib.Bits.{and_le_l, bit_and}
 use lib.Dec.{eqb}
 use lib.IntN.{nat_abs, negsuc, pos, ℤ}
-use lib.Signed.{rem_z}
 use mir.Syntax.{w64}
 use mir.Val.{SFits, of_z}
-use Rattle.lists.specs.Integers.{and_z, eq_z, low_bit}
-use Rattle.lists.proofs.Bits.{and_z_word, low_bit_mod}
-use Rattle.lists.proofs.Signed.{rem_none}
-use Rattle.lists.proofs.Tests.{eqb_yes}
+use Rattle.lists.specs.Integers.{and_z, eq_z}
+use Rattle.lists.proofs.Bits.{and_z_word}
 use Rattle.lists.proofs.Words.{eq_bits}
 use Rattle.spec.specs.Refusal.{negative}
 
@@ -29,12 +26,3 @@ pub masked : (v mask q : ℤ) → SFits w64 v → SFits w64 mask → SFits w64 q
 masked v (pos m) q fv fm fq n =
     ap (λ (x : ℕ). eqb x (of_z w64 q)) (and_bits v m fv fm.sfits) ∙ eq_bits (pos (and_z v m)) q (record { sfits = omega (arith, and_le v m, fm.sfits) }) fq
 masked v (negsuc m) q fv fm fq n = absurd (true≢false n)
-
-pub even_bit : (v : ℤ) → SFits w64 v → eqb (of_z w64 (rem_z v (pos 2))) 0 ≡ eqb (low_bit v) 0
-even_bit v f = rem_none v (pos 2) f ∙ ap (λ (x : ℕ). eqb x 0) (sym (low_bit_mod v))
-
-pub odd_bit : (v : ℤ) → eqb (low_bit v) 0 ≡ false → low_bit v ≡ 1
-odd_bit v e =
-    let m = low_bit_mod v in
-    let n : ¬ (low_bit v ≡ 0) = λ z. true≢false (sym (eqb_yes (low_bit v) 0 z) ∙ e) in
-    omega arith

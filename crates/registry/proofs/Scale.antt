@@ -1,25 +1,21 @@
 -- Values on the scale: their sums and differences stay within 64 bits.
-use mathlib.Core.Bool.{Bool, cond, false, false≢true, true, true≢false}
+use mathlib.Core.Bool.{Bool, cond, false, true, true≢false}
 use mathlib.Core.List.{List}
-use mathlib.Core.Option.{Option, none}
 use mathlib.Core.Path.{◌∙◌, ◌≡◌, ap, refl, subst, sym}
 use Prim.Native.Nat.{◌+◌, ◌-◌, ◌<◌, ◌^◌, ◌≤◌, suc, zero, ℕ}
 use native.Mathlib.Numerals.{add-one}
 use native.Mathlib.Omega.{arith}
 use lib.Dec.{T}
-use lib.IntN.{+ℤ_assoc, +ℤ_idr, ◌+ℤ◌, ◌-ℤ◌, nat_abs, negsuc, pos, sub_ℕ, ℤ}
-use lib.ListN.{drop, drop_of_length-le, get_or, length}
+use lib.IntN.{+ℤ_assoc, ◌+ℤ◌, ◌-ℤ◌, nat_abs, negsuc, pos, ℤ}
+use lib.ListN.{drop, get_or, length}
 use lib.Seq.{drop-cons}
 use lib.Signed.{lt_z, non_neg}
 use mir.Syntax.{w64}
 use mir.Val.{Fits, SFits}
 use Rattle.lists.specs.Integers.{sum_z}
 use Rattle.lists.proofs.Signed.{apart_bound}
-use Rattle.lists.proofs.Tests.{ltb_no, ltb_yes, yes_lt}
-use Rattle.spec.specs.Refusal.{negative, on_scale}
-use Rattle.spec.specs.Spec.{AxisSpec}
-use Rattle.spec.proofs.Multiples.{scale_bound}
-use Rattle.registry.specs.Project.{packed}
+use Rattle.lists.proofs.Tests.{ltb_no, yes_lt}
+use Rattle.spec.specs.Refusal.{negative}
 
 pub small_fits : (v : ℤ) → nat_abs v < 2 ^ 63 → SFits w64 v
 small_fits (pos n) h = record { sfits = omega arith }
@@ -57,10 +53,6 @@ pub natural_of : (v : ℤ) → lt_z v (pos 0) ≡ false → SFits w64 v → Natu
 natural_of (pos n) e f = let h = f.sfits in record { cast = natural_fits (pos n) refl f; small = omega arith; whole = refl }
 natural_of (negsuc n) e f = absurd (true≢false e)
 
--- ---- differences
-pub apart_fits : (v w : ℤ) → on_scale v ≡ true → on_scale w ≡ true → SFits w64 (v -ℤ w)
-apart_fits v w d e = small_fits (v -ℤ w) (omega (arith, apart_bound v w, scale_bound v d, scale_bound w e))
-
 -- ---- the sum
 pub sum_bound : (v w : ℤ) → nat_abs (v +ℤ w) ≤ nat_abs v + nat_abs w
 sum_bound v (pos zero) = apart_bound v (pos zero)
@@ -74,19 +66,3 @@ module _ (row : List ℤ) where
 
   pub sum_more : (total : ℤ) (f : ℕ) → f < length row → total +ℤ get_or row f (pos 0) +ℤ sum_from (f + 1) ≡ total +ℤ sum_from f
   sum_more total f h = rw (add-one f) (+ℤ_assoc total (get_or row f (pos 0)) (sum_from (suc f)) ∙ ap (λ l. total +ℤ sum_z l) (sym (drop-cons row f (pos 0) h)))
-
-  pub sum_end : (total : ℤ) (f : ℕ) → length row ≤ f → total +ℤ sum_from f ≡ total
-  sum_end total f h = rw (drop_of_length-le row h) (+ℤ_idr total)
-
--- ---- a value below the base
-module _ (offset : Option ℕ) (axes : List AxisSpec) where
-  packed-sub : (a b : ℕ) → a < b → packed offset axes (sub_ℕ a b) ≡ none
-  packed-sub a b h = ap (λ (t : Bool). packed offset axes (cond t (negsuc (b - suc a)) (pos (a - b)))) (ltb_yes a b h)
-
-  pub packed-below : (v base : ℤ) → lt_z v base ≡ true → packed offset axes (v -ℤ base) ≡ none
-  packed-below (pos a) (pos zero) e = absurd (let h = yes_lt a 0 e in omega arith)
-  packed-below (pos a) (pos (suc b)) e = packed-sub a (suc b) (yes_lt a (suc b) e)
-  packed-below (pos a) (negsuc b) e = absurd (false≢true e)
-  packed-below (negsuc a) (pos zero) e = packed-sub 0 (suc a) (omega arith)
-  packed-below (negsuc a) (pos (suc b)) e = refl
-  packed-below (negsuc a) (negsuc b) e = packed-sub (suc b) (suc a) (let h = yes_lt b a e in omega arith)
