@@ -15,7 +15,7 @@ use lib.Signed.{le_z, lt_z}
 use Rattle.std.specs.List.{IsEachAdjacentAnswer}
 use Rattle.std.specs.List.Sorted.{IsPartitionPoint, IsPartitionedBy}
 use Rattle.lists.specs.Integers.{elem_z, eq_z}
-use Rattle.lists.specs.Lists.{all, any, span, upto}
+use Rattle.lists.specs.Lists.{any, upto}
 use Rattle.lists.proofs.All.{All-all, All-upto, all-All, upto-All}
 use Rattle.lists.proofs.Integers.{eq_z_eq, over_of, up, up_eq, up_le, up_lt}
 use Rattle.lists.proofs.Signed.{lt_nle, nlt_le}

@@ -14,11 +14,11 @@ use Rattle.lists.specs.Integers.{elem_z}
 use Rattle.lists.proofs.Tests.{and-join, eqb_yes}
 use Rattle.lists.specs.Lists.{filter, or_else, over}
 use Rattle.spec.specs.Code.{as_record, ps_of}
-use Rattle.spec.specs.Kind.{ConstraintKind, Kind, bitmask, constraint, cross, enable_mask, enable_set, eq, even, field, ge, gt, kind_of, le, lt, member, neq, oneof, projector, range, unknown}
+use Rattle.spec.specs.Kind.{ConstraintKind, Kind, bitmask, constraint, cross, enable_mask, enable_set, eq, even, field, ge, gt, le, lt, member, neq, oneof, projector, range, unknown}
 use Rattle.spec.specs.Record.{Record, constraint_by, constraint_in, constraint_of, group, record_at, records_of}
 use Rattle.spec.specs.Spec.{Bitmask, Even, Ge, Gt, Le, Lt, Oneof, Range, Test}
 use Rattle.spec.specs.declared.records.Record as code
-use Rattle.registry.specs.Code.{group_in, passes, test_by, test_in}
+use Rattle.registry.specs.Code.{group_in, test_by, test_in}
 use Rattle.compose.specs.Maps.{narrow_by, narrow_if}
 use Rattle.compose.specs.Code.{kept_by, narrows_kind, narrows_test}
 

@@ -1,5 +1,5 @@
 -- Pairs among the records that stand at places.
-use Rattle.std.proofs.Common.{◌∙◌, ◌≡◌, ◌||◌, ◌+◌, ◌-◌, ◌<◌, ◌≤◌, ap, ap₂, refl, sym, arith, false, Bool, ℕ, suc, zero, List, [], ◌∷◌, ◌++◌, ℤ, length, map, replicate}
+use Rattle.std.proofs.Common.{◌∙◌, ◌≡◌, ◌||◌, ◌+◌, ◌-◌, ◌<◌, ◌≤◌, ap, refl, sym, arith, false, Bool, ℕ, suc, zero, List, [], ◌∷◌, ◌++◌, ℤ, length, map, replicate}
 use Rattle.lists.specs.Integers.{elem_z, eq_z}
 use Rattle.lists.specs.Lists.{any, span, upto}
 use Rattle.lists.proofs.Lists.{any_ext, map_append}

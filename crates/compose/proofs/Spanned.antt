@@ -1,6 +1,6 @@
 -- What the places of the records whose p is v give.
 use mathlib.Core.Bool.{Bool, ◌&&◌, ◌||◌, cond, false, true, true≢false}
-use mathlib.Core.List.{List, [], ◌∷◌, map}
+use mathlib.Core.List.{List, ◌∷◌, map}
 use mathlib.Core.Path.{◌∙◌, ◌≡◌, ap, ap₂, refl, sym}
 use Prim.Native.Nat.{◌*◌, ◌+◌, ◌-◌, ◌<◌, ◌^◌, ◌≤◌, suc, zero, ℕ}
 use native.Mathlib.Omega.{arith}

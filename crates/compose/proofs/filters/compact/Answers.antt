@@ -1,5 +1,5 @@
 -- `compose::filters::compact` meets its contract.
-use Rattle.std.proofs.Common.{◌∙◌, ◌≡◌, ap, sym, rules, arith, ℤ, Bool, pos, get_or, length, w64, to_z, of_z}
+use Rattle.std.proofs.Common.{◌∙◌, ◌≡◌, ap, sym, rules, arith, pos, get_or, w64, to_z, of_z}
 use mir.ValLaws.{to_z-of_z}
 use Rattle.compose.proofs.Narrowing.{moved_count, moved_end, moved_kept, moved_none, moved_past, moved_read}
 use Rattle.compose.proofs.filters.compact.Goals.{then-passes, else-passes}

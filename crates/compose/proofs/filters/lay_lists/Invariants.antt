@@ -1,6 +1,5 @@
 -- `compose::filters::lay_lists` meets its contract. The invariant: the lists of the first k - 1 fields are laid, and there is room for the rest.
 use mathlib.Core.Path.{◌≡◌}
-use Prim.Native.Nat.{◌-◌}
 use lib.ListN.{length}
 use Rattle.compose.specs.Code.{constraints_in}
 use Rattle.compose.proofs.Laid.{Laid}

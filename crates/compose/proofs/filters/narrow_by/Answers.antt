@@ -2,7 +2,7 @@
 use Rattle.std.proofs.Common.{◌∙◌, ◌≡◌, ap, sym, refl, add-one, rules, Bool, List, ℤ, ℕ, length}
 use mathlib.Core.List.{foldl}
 use Rattle.lists.specs.Lists.{filter, or_else, over}
-use Rattle.spec.specs.Code.{as_kind, as_record}
+use Rattle.spec.specs.Code.{as_kind}
 use Rattle.spec.specs.Kind.{bitmask, constraint, oneof, range}
 use Rattle.spec.specs.Record.{constraint_of, records_of}
 use Rattle.registry.specs.Code.{group_in, passes, test_in}

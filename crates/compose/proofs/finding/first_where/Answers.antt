@@ -1,5 +1,5 @@
 -- `compose::finding::first_where` meets its contract.
-use Rattle.std.proofs.Common.{◌∙◌, ◌≡◌, ap, sym, add-one, rules, arith, ℤ, Bool, pos, get_or, length, w64}
+use Rattle.std.proofs.Common.{◌∙◌, ◌≡◌, ap, sym, add-one, rules, arith, pos, get_or, length, w64}
 use mir.ValLaws.{to_z-of_z}
 use Rattle.compose.proofs.Turns.{least_end, least_more, least-stop}
 use Rattle.compose.proofs.finding.first_where.Goals as goal

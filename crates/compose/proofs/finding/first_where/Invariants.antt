@@ -1,5 +1,5 @@
 -- `compose::finding::first_where` meets its contract. The invariant: the index looked for is the first from i on.
-use Rattle.std.proofs.Common.{◌≡◌, ◌-◌, ◌≤◌, ℤ, Bool, pos, get_or, length}
+use Rattle.std.proofs.Common.{◌≡◌, ◌-◌, ℤ, Bool, pos, get_or, length}
 use Rattle.compose.specs.Code.{Answers}
 use Rattle.compose.specs.Walk.{least}
 use Rattle.compose.proofs.finding.first_where.Given as goal

@@ -1,5 +1,5 @@
 -- `compose::finding::is_ascending` meets its contract.
-use Rattle.std.proofs.Common.{◌≡◌, refl, rules, ℤ, Some}
+use Rattle.std.proofs.Common.{rules, Some}
 use Rattle.std.specs.Ordering.{partial_le, int_cmp}
 use Rattle.compose.proofs.Ascending.{ascending_is}
 use Rattle.compose.proofs.finding.is_ascending.Goals as goal

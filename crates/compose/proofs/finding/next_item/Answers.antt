@@ -5,7 +5,7 @@ use Rattle.lists.specs.Integers.{eq_z}
 use Rattle.registry.specs.Index.{Bracket, placed}
 use Rattle.compose.specs.Walk.{least}
 use Rattle.compose.proofs.Ascending.{listed, listed_by, listed_jump, listed_none, not_below}
-use Rattle.compose.proofs.Turns.{least_end, least-stop}
+use Rattle.compose.proofs.Turns.{least-stop}
 use Rattle.compose.proofs.finding.next_item.Goals.{After-lower-k, After-reach-i}
 use Rattle.compose.proofs.finding.next_item.Goals as goal
 

@@ -1,5 +1,5 @@
 -- `compose::finding::reach` meets its contract.
-use Rattle.std.proofs.Common.{◌≡◌, refl, rules}
+use Rattle.std.proofs.Common.{rules}
 use lib.Signed.{lt_z}
 use lib.IntN.{ℤ}
 use Rattle.std.proofs.lemmas.List.Sorted.{IsPartitionPoint-from_clause}

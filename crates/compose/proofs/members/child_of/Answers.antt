@@ -1,5 +1,4 @@
-use Rattle.std.proofs.Common.{◌∙◌, ◌≡◌, sym, rules}
-use Rattle.lists.specs.Integers.{eq_z}
+use Rattle.std.proofs.Common.{◌∙◌, sym}
 use Rattle.spec.specs.Record.{record_at}
 use Rattle.spec.proofs.Fields.{kind_of_lem}
 use Rattle.registry.proofs.Cross.{no_pair, pairs_entry}

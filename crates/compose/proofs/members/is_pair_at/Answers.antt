@@ -1,5 +1,5 @@
 -- `compose::members::is_pair_at` meets its contract.
-use Rattle.std.proofs.Common.{◌∙◌, ◌≡◌, ◌||◌, not, map, sym, inl, inr, rules, false, true}
+use Rattle.std.proofs.Common.{◌≡◌, not, map, sym, inl, inr, rules, false, true}
 use lib.Dec.{eqb}
 use Rattle.lists.specs.Integers.{eq_z}
 use Rattle.lists.specs.Lists.{any}

@@ -8,7 +8,7 @@ use Rattle.registry.specs.Check.{is_pair}
 use Rattle.registry.specs.Index.{Bracket, placed}
 use Rattle.compose.specs.Walk.{least}
 use Rattle.compose.proofs.Ascending.{not_below, paired, paired_jump, paired_none}
-use Rattle.compose.proofs.Turns.{least_end, least_more, least-stop}
+use Rattle.compose.proofs.Turns.{least_more, least-stop}
 use Rattle.compose.proofs.values.next_pair.Goals.{After-is_pair_at, After-lower-k, After-reach-i}
 use Rattle.compose.proofs.values.next_pair.Goals as goal
 

@@ -1,5 +1,5 @@
 -- `compose::values::next_tried` meets its contract.
-use Rattle.std.proofs.Common.{◌≡◌, map, rules}
+use Rattle.std.proofs.Common.{map, rules}
 use Rattle.lists.specs.Lists.{any}
 use Rattle.spec.specs.Record.{entry_of, records_of}
 use Rattle.registry.specs.Check.{is_pair}

@@ -1,5 +1,5 @@
 -- `IndexedRun::places_of` meets its contract.
-use Rattle.std.proofs.Common.{◌∙◌, arith}
+use Rattle.std.proofs.Common.{◌∙◌}
 use Rattle.lists.proofs.Tests.{ltb_no, ltb_yes}
 use Rattle.spec.specs.Record.{records_of}
 use Rattle.registry.proofs.Cross.{any_key}

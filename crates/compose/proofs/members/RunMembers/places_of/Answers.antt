@@ -1,10 +1,10 @@
 -- `Run::places_of` meets its contract.
-use Rattle.std.proofs.Common.{◌∙◌, ◌≡◌, ◌/◌, ap, sym, arith, List, length, map, ℕ}
-use Rattle.lists.specs.Lists.{any, upto}
-use Rattle.spec.specs.Record.{Record, record_at, records_of}
+use Rattle.std.proofs.Common.{◌∙◌, ◌/◌, ap, sym, arith, length, map}
+use Rattle.lists.specs.Lists.{any}
+use Rattle.spec.specs.Record.{record_at, records_of}
 use Rattle.registry.proofs.Cross.{any_key, any_pair}
 use Rattle.registry.proofs.Ordered.{records_upto}
-use Rattle.compose.specs.Code.{between, pairs_at}
+use Rattle.compose.specs.Code.{pairs_at}
 use Rattle.compose.proofs.Paired.{between_all}
 use Rattle.compose.proofs.members.RunMembers.places_of.Goals as goal
 

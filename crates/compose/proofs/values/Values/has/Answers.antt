@@ -1,5 +1,5 @@
 -- `compose::values::Values::has` meets its contract.
-use Rattle.std.proofs.Common.{◌∙◌, ◌≡◌, ◌<◌, ◌≤◌, refl, sym, arith, rules, nat_eq, false, get_or, length, pos, ℤ, w64, of_z}
+use Rattle.std.proofs.Common.{◌∙◌, ◌≡◌, sym, arith, rules, nat_eq, false, get_or, pos, w64, of_z}
 use Rattle.lists.specs.Integers.{elem_z, eq_z}
 use Rattle.compose.proofs.Ascending.{elem-by, elem-none}
 use Rattle.compose.proofs.Slotting.{free_none, only_is, only_none}
