@@ -1,4 +1,5 @@
 -- The tuples that a page goes through: each is an emitted one and zeros, with its row, and those from it on are left.
+use Rattle.std.specs.Prelude.{None, Some}
 use mathlib.Core.Bool.{Bool, cond, false, true}
 use mathlib.Core.List.{List, [], ◌++◌, ◌∷◌}
 use mathlib.Core.Option

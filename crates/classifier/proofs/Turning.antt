@@ -1,4 +1,5 @@
 -- What a turn of a page asks and writes, on a plan that lies in the file and the scratch.
+use mathlib.Core.Bool.{true}
 use mathlib.Core.List.{List}
 use mathlib.Core.Option.{Option, none, some}
 use mathlib.Core.Path.{◌∙◌, ◌≡◌, ap, fun_ext, subst, sym}

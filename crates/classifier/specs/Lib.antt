@@ -1,3 +1,4 @@
 pub mod Count
 pub mod Page
 pub mod Code
+pub mod Props

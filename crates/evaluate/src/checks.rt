@@ -28,10 +28,10 @@ pub struct Checks<'a> {
 
 impl<'a> Checks<'a> {
     // Others of the same constraints.
-    pub fn choosing(&self, chosen: &'a [u8]) -> Checks<'a>
-        requires { ChecksIn self.now.file.now self.now.heads.now chosen.now self.now.fields }
+    pub fn choosing(self, chosen: &'a [u8]) -> Checks<'a>
+        requires { ChecksIn self.file.now self.heads.now chosen.now self.fields }
         ensures chosen { result.chosen.now ≡ chosen.now }
-        ensures same { (result.file.now ≡ self.now.file.now) × (result.heads.now ≡ self.now.heads.now) × (result.fields ≡ self.now.fields) }
+        ensures same { (result.file.now ≡ self.entry.file.now) × (result.heads.now ≡ self.entry.heads.now) × (result.fields ≡ self.entry.fields) }
     {
         Checks {
             file: self.file,
@@ -89,7 +89,8 @@ fn is_allowed(file: &[u8], head: usize, end: usize, value: i64) -> bool
 // The first field whose check fails, counted from 0. Those of the raw row pass, so only values that are not its are looked at.
 pub fn failing_field(file: &[u8], fields: &[usize], raw: &[i64], row: &[i64]) -> Option<usize>
     requires { FieldsIn file.now fields.now × (length fields.now ≡ suc (length row.now)) × (length raw.now ≡ length row.now) × (first_false (field_checks (fields_in file.now fields.now) raw.now) ≡ 0) }
-    ensures { from_one result ≡ first_false (field_checks (fields_in file.now fields.now) row.now) }
+    ensures first { from_one result ≡ first_false (field_checks (fields_in file.now fields.now) row.now) }
+    ensures few { from_one result ≤ length row.now }
 {
     for (f, value) in row.iter().enumerate() {
         if *value != raw[f] && !is_allowed(file, fields[f], fields[f + 1], *value) {

@@ -4,8 +4,8 @@ use Rattle.evaluate.proofs.Rows.{fields_more, fields-passed, fields-stop}
 use Rattle.evaluate.proofs.checks.failing_field.Goals.{Joined-else-value-raw, else-value-raw-via-then-value-raw+else-not-is_allowed, else-value-raw-via-else-value-raw}
 use Rattle.evaluate.proofs.checks.failing_field.Goals as goal
 
-pub returns-then-not-is_allowed : goal.returns-then-not-is_allowed
-returns-then-not-is_allowed c =
+pub returns-then-not-is_allowed-clause-first : goal.returns-then-not-is_allowed-clause-first
+returns-then-not-is_allowed-clause-first c =
     let l = c.loop-f in
     sym (l.invariant.0 ∙ fields-stop c.args.file.now c.args.fields.now c.args.row.now l.f c.requires.0 c.requires.1 (omega arith) (let e : allowed_at c.args.file.now (get_or c.args.fields.now l.f 0) (get_or c.args.fields.now (l.f + 1) 0) (get_or c.args.row.now l.f (pos 0)) ≡ c.is_allowed.result = search rules in rw (← (add-one l.f)) (e ∙ c.if-not-is_allowed.true)) ∙ add-one l.f)
 
