@@ -14,7 +14,8 @@ use Rattle.lists.specs.Lists.{all, upto}
 use Rattle.spec.specs.Record.{decoded}
 use Rattle.spec.specs.Spec.{Spec}
 use Rattle.spec.proofs.Named.{width}
-use Rattle.compose.specs.Code.{Stands, plan_in}
+use Rattle.compose.specs.Code.{MaybeMap, Stands, plan_in}
+use Rattle.compose.specs.declared.places.Span.{Span}
 use Rattle.compose.specs.Plans.{next_tuple}
 use Rattle.compose.specs.Tuples.{Engine, zeros, padded}
 use Rattle.compose.specs.Walk.{Placed, Plan, first_tuple, has_tuple_after, index_holds, is_tuple, length_at, plan_of, tuple_after}
@@ -148,7 +149,7 @@ module _ (engine : Engine) (s : Spec) (ready : Ready engine s) (few : width s �
         front = take_at u (drop (width s) tuple) (width s) long
 
 -- ---- on a plan that lies in the file and the scratch
-module _ {engine : Engine} {file heads : List ℕ} {c : ℕ} {checks asked : List ℕ} {scratch : List ℤ} {lists maps order : List ℕ} (w : Walking engine file heads c checks asked scratch lists maps order) where
+module _ {engine : Engine} {file heads : List ℕ} {c : ℕ} {checks asked : List ℕ} {scratch : List ℤ} {lists : List Span} {maps : List MaybeMap} {order : List ℕ} (w : Walking engine file heads c checks asked scratch lists maps order) where
   ready : Ready engine (decoded file)
   ready = walking_ready w
 

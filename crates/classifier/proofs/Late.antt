@@ -14,7 +14,8 @@ use Rattle.spec.specs.Record.{decoded}
 use Rattle.spec.specs.Refusal.{Answer, Refused, ◌▷◌, accepted, answer, file_fault, refuse, refuse_if, refused, unless_refused}
 use Rattle.spec.specs.Spec.{Spec}
 use Rattle.spec.proofs.Named.{width}
-use Rattle.compose.specs.Code.{Opened, Planned, plan_in, sound_number}
+use Rattle.compose.specs.Code.{MaybeMap, Opened, Planned, plan_in, sound_number}
+use Rattle.compose.specs.declared.places.Span.{Span}
 use Rattle.compose.specs.Maps.{childless, cyclic}
 use Rattle.compose.specs.Tuples.{Engine, exhaustive, structural, zeros}
 use Rattle.compose.specs.Walk.{Plan, plan_of}
@@ -115,7 +116,7 @@ fieldless engine s room old beginning e h = rw (ap (λ (o : Option (List (List �
 fieldless engine s room old (after_tuple t) e h = let z : ◌≡◌ {A = Bool} false true = sym (no_tuple engine s e t) ∙ h in absurd (false≢true z)
 
 -- ---- a start that is none
-module _ (engine : Engine) (file heads : List ℕ) (c : ℕ) (scratch : List ℤ) (lists maps order : List ℕ) (opened : Opened file heads (length order) c) (planned : Planned engine file scratch lists maps order) (sound : sound_number engine (decoded file) ≡ 0) where
+module _ (engine : Engine) (file heads : List ℕ) (c : ℕ) (scratch : List ℤ) (lists : List Span) (maps : List MaybeMap) (order : List ℕ) (opened : Opened file heads (length order) c) (planned : Planned engine file scratch lists maps order) (sound : sound_number engine (decoded file) ≡ 0) where
   pub none-due : (start : Start) → Wide start → is_none (due engine (decoded file) start) ≡ not (is_start (plan_in file scratch lists maps order) start)
   none-due start l = go (length order) refl ∙ ap (λ (p : Plan). not (is_start p start)) (sym planned.plan-is)
     where

@@ -5,7 +5,6 @@ pub mod Placing
 pub mod Walked
 pub mod Tallying
 pub mod Running
-pub mod Wide
 pub mod Answered
 pub mod Wording
 pub mod Starts

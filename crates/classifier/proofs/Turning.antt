@@ -10,7 +10,8 @@ use lib.ListN.{length, length-append, take}
 use Rattle.spec.specs.Record.{decoded}
 use Rattle.spec.proofs.Named.{width}
 use Rattle.registry.specs.Code.{RowIn}
-use Rattle.compose.specs.Code.{ChosenFrom, Stands, chosen_in, constraints_in, enables_of, plan_in}
+use Rattle.compose.specs.Code.{MaybeMap, ChosenFrom, Stands, chosen_in, constraints_in, enables_of, plan_in}
+use Rattle.compose.specs.declared.places.Span.{Span}
 use Rattle.compose.specs.Force.{force}
 use Rattle.compose.specs.Tuples.{Engine, lists_of, values}
 use Rattle.compose.specs.Walk.{Placed, Plan, length_at, plan_of}
@@ -38,7 +39,7 @@ length-words v = ap (λ (k : ℕ). suc (suc k)) (length-append (projection_words
     go none = omega arith
     go (some x) = omega arith
 
-module _ {engine : Engine} {file heads : List ℕ} {c : ℕ} {checks due : List ℕ} {scratch : List ℤ} {lists maps order : List ℕ} (w : Walking engine file heads c checks due scratch lists maps order)
+module _ {engine : Engine} {file heads : List ℕ} {c : ℕ} {checks due : List ℕ} {scratch : List ℤ} {lists : List Span} {maps : List MaybeMap} {order : List ℕ} (w : Walking engine file heads c checks due scratch lists maps order)
     (numbers : List ℕ) (chosen : chosen_in file (rules_of heads (length order) c) numbers ≡ enables_of engine (constraints_in file (rules_of heads (length order) c)))
     (kinds : ChosenFrom file (rules_of heads (length order) c) 0 20 22 numbers) where
   abbrev plan : Plan
