@@ -10,7 +10,7 @@ ghost use Rattle.registry.specs.Code.{as_projection, word_of, digit_of, rest_of,
 
 use spec::domains::part;
 use spec::kinds::Kind;
-use spec::numbers::Value;
+use spec::numbers::{Value, power};
 use spec::records::{a_at, b_at, kind_at, p_at, q_at};
 
 // A projection is below this.
@@ -34,12 +34,13 @@ fn parity(v: Value) -> i64
     v.0 & 1
 }
 
-// v × 2^k, if that is below the top; tested before shifting.
+// v × 2^k, if that is below the top.
 fn raise(v: u64, k: usize) -> Option<u64>
     requires { k < 64 }
     ensures { result ≡ word_of (v * 2 ^ k) }
 {
-    if v < TOP >> k { Some(v << k) } else { None }
+    let raised = v.checked_mul(power(k))?;
+    if raised < TOP { Some(raised) } else { None }
 }
 
 // word + v × 2^k, if that is below the top.
@@ -78,7 +79,7 @@ fn spread(axes: &[u8], v: u64, start: u64) -> Option<i64>
     let mut rest = v;
     for i in 0..axes.len() / 32 {
         let radix = p_at(axes, i) as u64;
-        if radix == 0 && 1 << a_at(axes, i) <= rest {
+        if radix == 0 && power(a_at(axes, i)) <= rest {
             return None;
         }
         word = add_raised(word, digit(radix, rest), b_at(axes, i))?;

@@ -1,5 +1,5 @@
 -- `registry::project::spread` meets its contract. The invariant: the word and the axes left give what the start and all axes give.
-use Rattle.std.proofs.Common.{◌∙◌, ◌≡◌, sym, ap, ap₂, ◌+◌, ◌*◌, ◌^◌, ◌<◌, ◌≤◌, ℕ, map, drop, pos}
+use Rattle.std.proofs.Common.{◌∙◌, ◌≡◌, sym, ap, ap₂, ◌+◌, ◌*◌, ◌^◌, ◌<◌, ℕ, map, drop, pos}
 use mathlib.Core.Option.{some}
 use lib.IntN.{nat_abs}
 use mir.Syntax.{w64}
@@ -9,10 +9,10 @@ use Rattle.spec.proofs.Multiples.{held}
 use Rattle.spec.specs.Record.{Record, axis_of, record_at, records_of}
 use Rattle.registry.specs.Code.{AxisIn, as_projection, digit_of, rest_of, word_of}
 use Rattle.registry.specs.Project.{fitting}
-use Rattle.registry.proofs.Digits.{axis_at, fits_no, fits_yes, from_end, from_full, from_turn, over_top, packed_from, power_held}
+use Rattle.registry.proofs.Digits.{axis_at, fits_no, fits_yes, from_end, from_full, from_turn, over_top, packed_from}
 use Rattle.registry.proofs.Packing.{plus-digits}
 use Rattle.registry.proofs.Scale.{natural_fits}
-use Rattle.registry.proofs.project.spread.Goals.{After-p_at-radix, Joined-else-radix-eq0, After-add_raised, else-radix-eq0-via-then-radix-eq0+else-a_at-rest, else-radix-eq0-via-else-radix-eq0}
+use Rattle.registry.proofs.project.spread.Goals.{After-p_at-radix, Joined-else-radix-eq0, After-add_raised, else-radix-eq0-via-then-radix-eq0+else-power-rest, else-radix-eq0-via-else-radix-eq0}
 use Rattle.registry.proofs.project.spread.Goals as goal
 
 pub loop-i-init : goal.loop-i-init
@@ -37,15 +37,14 @@ overflow_cast-radix c =
     let t = (goal.at.overflow_cast-radix c).After-p_at-radix in
     rw (to_z-of_z w64 c.p_at-radix.result (sfits_of c.p_at-radix.type_inv)) (natural_fits c.p_at-radix.result (rw c.p_at-radix.ensures (axis t).radix) (sfits_of c.p_at-radix.type_inv))
 
-pub overflow_shl-a_at : goal.overflow_shl-a_at
-overflow_shl-a_at c = rw c.a_at.ensures.0 (axis (goal.at.overflow_shl-a_at c).After-p_at-radix).width
+pub power-requires : goal.power-requires
+power-requires c = rw c.a_at.ensures.0 (axis (goal.at.power-requires c).After-p_at-radix).width
 
-pub returns-then-a_at-rest : goal.returns-then-a_at-rest
-returns-then-a_at-rest c =
-    let t = (goal.at.returns-then-a_at-rest c).After-p_at-radix in
+pub returns-then-power-rest : goal.returns-then-power-rest
+returns-then-power-rest c =
+    let t = (goal.at.returns-then-power-rest c).After-p_at-radix in
     let l = c.loop-i in
-    let width : c.a_at.result ≡ (m t).a = c.a_at.ensures.0 in
-    let full : 2 ^ (m t).a ≤ l.rest = rw width at (rw (power_held c.a_at.result (rw width (axis t).width)) at c.if-a_at-rest.true) in
+    let full = rw (c.power.ensures, c.a_at.ensures.0) at c.if-power-rest.true in
     sym (from_full c.args.axes.now l.word l.rest l.i c.loop-i-test.true (sym (radix-read t) ∙ c.if-radix-eq0.true) full) ∙ l.invariant.1
 
 pub add_raised-requires : goal.add_raised-requires
@@ -56,9 +55,7 @@ room : (c : Joined-else-radix-eq0) → nat_abs (m (goal.at.Joined-else-radix-eq0
 room c e =
     let t = (goal.at.Joined-else-radix-eq0 c).After-p_at-radix in
     elim c.else-radix-eq0.branch [
-      | else-radix-eq0-via-then-radix-eq0+else-a_at-rest w ↦
-          let width : w.a_at.result ≡ (m t).a = w.a_at.ensures.0 in
-          rw width at (rw (power_held w.a_at.result (rw width (axis t).width)) at w.if-a_at-rest.false)
+      | else-radix-eq0-via-then-radix-eq0+else-power-rest w ↦ rw (w.power.ensures, w.a_at.ensures.0) at w.if-power-rest.false
       | else-radix-eq0-via-else-radix-eq0 w ↦ absurd (w.if-radix-eq0.false (radix-read t ∙ e))
     ]
 
