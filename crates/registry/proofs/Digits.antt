@@ -3,7 +3,7 @@ use mathlib.Core.Bool.{Bool, cond, false, true}
 use mathlib.Core.List.{List, [], ◌∷◌, map}
 use mathlib.Core.Option.{Option, none, some}
 use mathlib.Core.Path.{◌∙◌, ◌≡◌, ap, refl, subst, sym}
-use Prim.Native.Nat.{◌%◌, ◌*◌, ◌+◌, ◌-◌, ◌/◌, ◌<◌, ◌^◌, ◌≤◌, suc, zero, ℕ}
+use Prim.Native.Nat.{◌%◌, ◌*◌, ◌+◌, ◌/◌, ◌<◌, ◌^◌, ◌≤◌, suc, zero, ℕ}
 use native.Mathlib.Numerals.{add-one}
 use native.Mathlib.Omega.{arith}
 use lib.Dec.{ltb}
@@ -11,14 +11,13 @@ use Rattle.std.specs.Prelude.{Some, None}
 use lib.IntN.{nat_abs, pos, ℤ}
 use lib.ListN.{drop, drop_of_length-le, length}
 use Rattle.lists.proofs.All.{All, All_at}
-use Rattle.lists.proofs.Range.{in_range}
 use Rattle.lists.proofs.Tests.{ltb_no, ltb_yes, no_ge, yes_lt}
 use Rattle.spec.specs.Record.{Record, axis_of, record_at, records_of}
 use Rattle.spec.specs.Spec.{Axis, AxisSpec}
 use Rattle.spec.proofs.Fields.{length_records, record_get_d, records_from}
 use Rattle.registry.specs.Code.{AxisIn, digit_of, rest_of, word_by, word_of}
 use Rattle.registry.specs.Project.{fitting}
-use Rattle.registry.proofs.Packing.{digits_from, shift_fits}
+use Rattle.registry.proofs.Packing.{digits_from}
 
 -- ---- words
 pub word_yes : (n : ℕ) → n < 2 ^ 63 → word_by true n ≡ word_of n
@@ -42,12 +41,6 @@ fits_no n = go (ltb n (2 ^ 63)) refl
     go false t e = no_ge n (2 ^ 63) t
 
 -- ---- v × 2^k
-pub raised_below : (v k : ℕ) → k < 64 → v < 2 ^ (63 - k) → v * 2 ^ k < 2 ^ 63
-raised_below v k h l = yes_lt (v * 2 ^ k) (2 ^ 63) (shift_fits v k (omega arith) ∙ ltb_yes v (2 ^ (63 - k)) l)
-
-pub raised_over : (v k : ℕ) → k < 64 → 2 ^ (63 - k) ≤ v → 2 ^ 63 ≤ v * 2 ^ k
-raised_over v k h l = no_ge (v * 2 ^ k) (2 ^ 63) (shift_fits v k (omega arith) ∙ ltb_no v (2 ^ (63 - k)) l)
-
 -- ---- digits
 
 -- An axis without radix has no room for what is left.

@@ -34,13 +34,13 @@ fn parity(v: Value) -> i64
     v.0 & 1
 }
 
-// v × 2^k, if that is below 2^63; tested before it is multiplied.
+// v × 2^k, if that is below the top.
 fn raise(v: u64, k: usize) -> Option<u64>
     requires { k < 64 }
     ensures { result ≡ word_of (v * 2 ^ k) }
 {
-    let below = power(63 - k);
-    if v < below { Some(v * power(k)) } else { None }
+    let raised = v.checked_mul(power(k))?;
+    if raised < TOP { Some(raised) } else { None }
 }
 
 // word + v × 2^k, if that is below the top.

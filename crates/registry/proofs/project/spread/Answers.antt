@@ -1,5 +1,5 @@
 -- `registry::project::spread` meets its contract. The invariant: the word and the axes left give what the start and all axes give.
-use Rattle.std.proofs.Common.{◌∙◌, ◌≡◌, sym, ap, ap₂, ◌+◌, ◌*◌, ◌^◌, ◌<◌, ◌≤◌, ℕ, map, drop, pos}
+use Rattle.std.proofs.Common.{◌∙◌, ◌≡◌, sym, ap, ap₂, ◌+◌, ◌*◌, ◌^◌, ◌<◌, ℕ, map, drop, pos}
 use mathlib.Core.Option.{some}
 use lib.IntN.{nat_abs}
 use mir.Syntax.{w64}
@@ -44,8 +44,7 @@ pub returns-then-power-rest : goal.returns-then-power-rest
 returns-then-power-rest c =
     let t = (goal.at.returns-then-power-rest c).After-p_at-radix in
     let l = c.loop-i in
-    let width : c.a_at.result ≡ (m t).a = c.a_at.ensures.0 in
-    let full : 2 ^ (m t).a ≤ l.rest = rw width at (rw c.power.ensures at c.if-power-rest.true) in
+    let full = rw (c.power.ensures, c.a_at.ensures.0) at c.if-power-rest.true in
     sym (from_full c.args.axes.now l.word l.rest l.i c.loop-i-test.true (sym (radix-read t) ∙ c.if-radix-eq0.true) full) ∙ l.invariant.1
 
 pub add_raised-requires : goal.add_raised-requires
@@ -56,9 +55,7 @@ room : (c : Joined-else-radix-eq0) → nat_abs (m (goal.at.Joined-else-radix-eq0
 room c e =
     let t = (goal.at.Joined-else-radix-eq0 c).After-p_at-radix in
     elim c.else-radix-eq0.branch [
-      | else-radix-eq0-via-then-radix-eq0+else-power-rest w ↦
-          let width : w.a_at.result ≡ (m t).a = w.a_at.ensures.0 in
-          rw width at (rw w.power.ensures at w.if-power-rest.false)
+      | else-radix-eq0-via-then-radix-eq0+else-power-rest w ↦ rw (w.power.ensures, w.a_at.ensures.0) at w.if-power-rest.false
       | else-radix-eq0-via-else-radix-eq0 w ↦ absurd (w.if-radix-eq0.false (radix-read t ∙ e))
     ]
 
