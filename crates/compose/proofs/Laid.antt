@@ -88,9 +88,6 @@ pub record Laid (file fields : List ℕ) (cs : List ConstraintSpec) (size : ℕ)
   pub room : at + sum_n (lengths (fields_in file (drop (k - 1) fields))) ≤ size
   pub places-are : places ≡ list_places (map length done)
 
-pub laid_none : (file fields : List ℕ) (cs : List ConstraintSpec) (scratch : List ℤ) → sum_n (lengths (fields_in file fields)) ≤ length scratch → Laid file fields cs (length scratch) scratch (list_places []) 0 1
-laid_none file fields cs scratch h = record { done = []; first = omega arith; counted = refl; whole = refl; long = refl; front = refl; ends = refl; room = omega arith; places-are = refl }
-
 joined_more : (ls : List (List ℤ)) (l : List ℤ) → joined (ls ++ (l ∷ [])) ≡ joined ls ++ l
 joined_more ls l = concat_map_append (λ (z : List ℤ). z) ls (l ∷ []) ∙ ap (λ (z : List ℤ). joined ls ++ z) (append-nil l)
 
@@ -103,9 +100,6 @@ sum_append [] b = sym (zero-add (sum_n b))
 sum_append (x ∷ a) b = let e = sum_append a b in omega arith
 
 module _ (file fields : List ℕ) (cs : List ConstraintSpec) (size : ℕ) (scratch : List ℤ) (places : List Span) (at k : ℕ) (m : Laid file fields cs size scratch places at k) where
-  pub laid_inside : at ≤ length scratch
-  laid_inside = let r = m.room in let n = m.long in omega arith
-
   -- the part from `at` on
   part_length : length (take (length scratch - at) (drop at scratch)) ≡ size - at
   part_length = let n = m.long in length-take-le (length scratch - at) (drop at scratch) (omega (arith, length-drop at scratch)) ∙ omega arith

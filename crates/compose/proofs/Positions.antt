@@ -4,7 +4,6 @@ use mathlib.Core.List.{List, [], ◌++◌, ◌∷◌, append-nil, foldl, foldl-a
 use mathlib.Core.Path.{◌∙◌, ◌≡◌, ap, ap₂, refl, subst, sym}
 use Prim.Native.Nat.{◌+◌, ◌-◌, ◌/◌, ◌<◌, ◌≤◌, suc, zero, ℕ}
 use native.Mathlib.Decide.{dec_lt}
-use native.Mathlib.Nat.{zero-add}
 use native.Mathlib.Numerals.{add-one}
 use native.Mathlib.Omega.{arith}
 use lib.ListN.{drop, drop_of_length-le, get_or, length, length-append, length-set, set, take}
@@ -87,9 +86,6 @@ pub record Headed (file at₀ at : List ℕ) (count i : ℕ) : Type 0 where
   pub whole : groups_in file (take count at ++ ((i + run_length file i) ∷ [])) ++ groups (drop i (records_of file)) ≡ groups (records_of file)
   pub rising : Rising file (take count at ++ ((i + run_length file i) ∷ []))
   pub rest : drop count at ≡ drop count at₀
-
-pub headed_none : (file at : List ℕ) → Headed file at at 0 0
-headed_none file at = record { inside = omega arith; wide = refl; counted = zero-add (length (groups (records_of file))); whole = refl; rising = λ k l. absurd (omega arith); rest = refl }
 
 module _ (file at₀ at : List ℕ) (count i : ℕ) (h : Headed file at₀ at count i) where
   -- the list with one position more

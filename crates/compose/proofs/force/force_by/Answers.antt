@@ -8,7 +8,7 @@ use lib.Dec.{eqb}
 use lib.ListN.{drop, length, take}
 use mir.Syntax.{w64}
 use mir.Val.{of_z}
-use borrow.Author.Rules.{sfits_of}
+use borrow.Author.Rules.{rules, sfits_of}
 use Rattle.lists.specs.Integers.{eq_z}
 use Rattle.lists.proofs.All.{All}
 use Rattle.lists.proofs.Tests.{eqb_no, eqb_yes}
@@ -23,7 +23,7 @@ use Rattle.compose.proofs.force.force_by.Goals as goal
 -- the test of the trigger, of the numbers
 test : (c : After-p_at) (t : Bool) → eqb (of_z w64 (value_at c.args.row.now c.a_at-a.result)) (of_z w64 c.p_at.result) ≡ t
     → eq_z (value_at c.args.row.now (record_at c.args.file.now c.args.head).a) (record_at c.args.file.now c.args.head).p ≡ t
-test c t e = rw (← c.a_at-a.ensures.0, ← c.p_at.ensures) (sym (eq_bits (value_at c.args.row.now c.a_at-a.result) c.p_at.result (sfits_of c.t8-1.given) (sfits_of c.p_at.type_inv)) ∙ e)
+test c t e = rw (← c.a_at-a.ensures.0, ← c.p_at.ensures) (sym (eq_bits (value_at c.args.row.now c.a_at-a.result) c.p_at.result (search rules) (sfits_of c.p_at.type_inv)) ∙ e)
 
 -- the members
 here : (c : After-part) → records_of c.part.result.now ≡ take (c.args.end - suc c.args.head) (drop (suc c.args.head) (records_of c.args.file.now))
