@@ -20,7 +20,7 @@ loop-i-init c =
     let whole = lines_of args.count args.width args.words.now in
     let starts : lines_of (args.count - 0) args.width (drop (0 * args.width) args.words.now) ≡ whole = lines_start args.count args.width args.words.now in
     let long = ap (λ (l : List ℕ). length l) starts in
-    (omega arith, refl, omega arith, (ap (sets args.out.now 0) starts, omega arith))
+    (refl, omega arith, (ap (sets args.out.now 0) starts, omega arith))
 
 -- what may be asked of the lines
 asked : (c : Start) → (4 ≤ c.args.width) × (c.args.count * c.args.width ≤ length c.args.words.now) × (bytes_for (c.args.count * c.args.width) ≤ length c.args.out.now)
@@ -72,7 +72,7 @@ put_line-next-requires c =
     let t = (goal.at.put_line-next-requires c).In-loop-i in
     let s = (goal.at.put_line-next-requires c).Start in
     let facts = asked s in
-    rw (wide t) (omega (arith, long t, facts.0), omega (arith, long t, facts.2, t.loop-i.invariant.1, t.loop-i.invariant.2, line_below s.args.count s.args.width t.loop-i.i t.loop-i-test.true))
+    rw (wide t) (omega (arith, long t, facts.0), omega (arith, long t, facts.2, t.loop-i.invariant.0, t.loop-i.invariant.1, line_below s.args.count s.args.width t.loop-i.i t.loop-i-test.true))
 
 pub loop-i-preserved : goal.loop-i-preserved
 loop-i-preserved c =
@@ -84,10 +84,10 @@ loop-i-preserved c =
     let puts = rw (wide t) at c.put_line-next.ensures in
     let put = c.put_line-next in
     let next = (here.i + 1) * width t in
-    (omega arith, omega arith, omega (arith, puts.upper_bound, long t, here.invariant.2, add-mul here.i 1 (width t), one-mul (width t)), left_more (sets args.out.now 0 whole) (length whole) here.out put.new.out here.next put.result (line_of (take (width t) (left t))) (lines_of (args.count - (here.i + 1)) (width t) (drop next words)) (lines_of (args.count - here.i) (width t) (left t)) (lines_more args.count (width t) here.i words t.loop-i-test.true) puts.out_after puts.value here.invariant.3)
+    (omega arith, omega (arith, puts.upper_bound, long t, here.invariant.1, add-mul here.i 1 (width t), one-mul (width t)), left_more (sets args.out.now 0 whole) (length whole) here.out put.new.out here.next put.result (line_of (take (width t) (left t))) (lines_of (args.count - (here.i + 1)) (width t) (drop next words)) (lines_of (args.count - here.i) (width t) (left t)) (lines_more args.count (width t) here.i words t.loop-i-test.true) puts.out_after puts.value here.invariant.2)
 
 pub shape_of-out : goal.shape_of-out
-shape_of-out c = c.loop-i.invariant.1
+shape_of-out c = c.loop-i.invariant.0
 
 pub returns : goal.returns
 returns c =
@@ -97,5 +97,5 @@ returns c =
     let left = drop (here.i * args.width) args.words.now in
     let all : here.i ≡ args.count = omega (arith, here.invariant.0, c.loop-i-test.false) in
     let far = ap (λ (k : ℕ). k * args.width) all in
-    let put = left_end (sets args.out.now 0 whole) (length whole) here.out here.next (lines_of (args.count - here.i) args.width left) (lines_end args.count args.width here.i left c.loop-i-test.false) here.invariant.3 in
-    record { out_after = put.0; value = put.1; upper_bound = omega (arith, far, here.invariant.2, (asked (goal.at.returns c).Start).2) }
+    let put = left_end (sets args.out.now 0 whole) (length whole) here.out here.next (lines_of (args.count - here.i) args.width left) (lines_end args.count args.width here.i left c.loop-i-test.false) here.invariant.2 in
+    record { out_after = put.0; value = put.1; upper_bound = omega (arith, far, here.invariant.1, (asked (goal.at.returns c).Start).2) }

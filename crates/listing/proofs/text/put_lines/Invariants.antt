@@ -8,7 +8,4 @@ use Rattle.listing.proofs.Buffer.{Left}
 use Rattle.listing.proofs.text.put_lines.Given as goal
 
 abbrev pub invariant-loop-i : goal.invariant-loop-i
-invariant-loop-i l = (l.i ≤ l.count) × (length l.out ≡ length l.initial.out) × (l.next ≤ bytes_for (l.i * l.width)) × Left (sets l.initial.out 0 (lines_of l.count l.width l.words)) (length (lines_of l.count l.width l.words)) l.out l.next (lines_of (l.count - l.i) l.width (drop (l.i * l.width) l.words))
-
-abbrev pub decreases-loop-i : goal.decreases-loop-i
-decreases-loop-i l = l.count - l.i
+invariant-loop-i l = (length l.out ≡ length l.initial.out) × (l.next ≤ bytes_for (l.i * l.width)) × Left (sets l.initial.out 0 (lines_of l.count l.width l.words)) (length (lines_of l.count l.width l.words)) l.out l.next (lines_of (l.count - l.i) l.width (drop (l.i * l.width) l.words))

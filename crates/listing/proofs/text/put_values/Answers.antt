@@ -13,27 +13,27 @@ use Rattle.listing.proofs.Buffer.{left_end, left_more, pieces_more}
 use Rattle.listing.proofs.text.put_values.Invariants.{values_text}
 use Rattle.listing.proofs.text.put_values.Goals as goal
 
-pub loop-i-init : goal.loop-i-init
-loop-i-init c = (omega arith, refl, omega arith, (refl, refl))
+pub loop-number-init : goal.loop-number-init
+loop-number-init c = (refl, omega arith, (refl, refl))
 
-pub loop-i-preserved : goal.loop-i-preserved
-loop-i-preserved c =
-    let here = c.loop-i in
+pub loop-number-preserved : goal.loop-number-preserved
+loop-number-preserved c =
+    let here = c.loop-number in
     let args = c.args in
     let numbers = args.numbers.now in
     let put = c.put_value-next in
-    let number = get_or numbers here.i (pos 0) in
+    let number = get_or numbers here.number-index (pos 0) in
     let piece = spaced (signed_decimal number) in
-    let puts = rw (to_z-of_z w64 number (sfits_of c.put_value-arg-in-loop-i-1.given)) at put.ensures in
-    (omega arith, omega arith, omega (arith, puts.upper_bound), left_more (sets args.out.now args.at (values_text numbers)) (args.at + length (values_text numbers)) here.out put.new.out here.next put.result piece (values_text (drop (here.i + 1) numbers)) (values_text (drop here.i numbers)) (pieces_more (λ x. spaced (signed_decimal x)) numbers here.i (pos 0) (omega arith)) puts.out_after puts.value here.invariant.3)
+    let puts = rw (to_z-of_z w64 number (sfits_of c.put_value-arg-in-loop-number-1.given)) at put.ensures in
+    (omega arith, omega (arith, puts.upper_bound), left_more (sets args.out.now args.at (values_text numbers)) (args.at + length (values_text numbers)) here.out put.new.out here.next put.result piece (values_text (drop (here.number-index + 1) numbers)) (values_text (drop here.number-index numbers)) (pieces_more (λ x. spaced (signed_decimal x)) numbers here.number-index (pos 0) (omega arith)) puts.out_after puts.value here.invariant.2)
 
 pub shape_of-out : goal.shape_of-out
-shape_of-out c = c.loop-i.invariant.1
+shape_of-out c = c.loop-number.invariant.0
 
 pub returns : goal.returns
 returns c =
-    let here = c.loop-i in
+    let here = c.loop-number in
     let args = c.args in
     let numbers = args.numbers.now in
-    let ends = left_end (sets args.out.now args.at (values_text numbers)) (args.at + length (values_text numbers)) here.out here.next (values_text (drop here.i numbers)) (ap values_text (drop_of_length-le numbers {i = here.i} (omega arith))) here.invariant.3 in
+    let ends = left_end (sets args.out.now args.at (values_text numbers)) (args.at + length (values_text numbers)) here.out here.next (values_text (drop here.number-index numbers)) (ap values_text (drop_of_length-le numbers {i = here.number-index} (omega arith))) here.invariant.2 in
     record { out_after = ends.0; value = ends.1; upper_bound = omega arith }
