@@ -1,28 +1,32 @@
-use Rattle.std.proofs.Common.{rules, ◌≡◌, ◌≤◌, length, ℕ, ◌+◌, ◌-◌, ◌*◌, ◌<◌, ◌/◌, ◌%◌, Bool, true, false, nat_eq, nat_lt, List, [], ◌∷◌, ◌++◌, slice_index_or, slice_set, bit_and, bit_or, Fits, w8, w32, w64, Bor, MutBor}
-use Rattle.std.proofs.Math.Option.{none}
-use Rattle.lists.specs.Lists.{over}
-use Rattle.spec.specs.Record.{decoded}
-use Rattle.spec.specs.Refusal.{answer, file_fault, unless_refused}
-use Rattle.spec.specs.Shape.{shape_of}
-use Rattle.spec.specs.Code.{as_shape}
-use Rattle.compose.specs.Code.{as_engine, Opened}
-use Rattle.compose.specs.Plans.{as_plan, number_of}
-use Rattle.classifier.specs.Count.{scratch_after, scratch_for}
-use Rattle.classifier.specs.Page.{due_tuples, page_answer, page_fault, page_of, page_output, page_words}
-use Rattle.classifier.specs.Code.{as_page, as_paged, as_start, late_fault, late_number}
+use Rattle.std.proofs.Common.{◌∙◌, ◌≡◌, Bool, List, Option, ap, false, length, sym, true, ℕ}
+use Rattle.compose.specs.Plans.{as_plan}
+use Rattle.compose.specs.Walk.{is_tuple}
+use Rattle.compose.proofs.Stepping.{width_in}
+use Rattle.classifier.specs.Code.{as_start, is_start}
+use Rattle.classifier.proofs.Starts.{late_14, late_15}
+use Rattle.classifier.proofs.page.late.Goals.{In-Some}
 use Rattle.classifier.proofs.page.late.Goals as goal
 
--- src/page.rt:31:9
+-- a start that is given is asked about
+given : (c : In-Some) → is_start (as_plan c.args.plan.now) (as_start c.args.start) ≡ is_tuple (as_plan c.args.plan.now) c.in-Some.t
+given c = ap (λ (s : Option (List ℕ)). is_start (as_plan c.args.plan.now) (as_start s)) c.in-Some.is
+
 pub returns-then-n-room : goal.returns-then-n-room
-returns-then-n-room c = ?
+returns-then-n-room c =
+    let plan = c.args.plan.now in
+    late_14 (as_plan c.args.plan.now) (length plan.order.now) c.args.room (as_start c.args.start) (width_in plan.file.now plan.scratch.now plan.lists.now plan.maps.now plan.order.now) c.if-n-room.true
 
--- src/page.rt:36:17
 pub returns-then-is_emitted : goal.returns-then-is_emitted
-returns-then-is_emitted c = ?
+returns-then-is_emitted c =
+    let plan = c.args.plan.now in
+    late_15 (as_plan c.args.plan.now) (length plan.order.now) c.args.room (as_start c.args.start) (width_in plan.file.now plan.scratch.now plan.lists.now plan.maps.now plan.order.now) c.if-n-room.false true (given (goal.at.returns-then-is_emitted c).In-Some ∙ sym c.is_emitted.ensures ∙ c.if-is_emitted.true)
 
--- src/page.rt:26:1
 pub returns-else-is_emitted : goal.returns-else-is_emitted
-returns-else-is_emitted c = ?
+returns-else-is_emitted c =
+    let plan = c.args.plan.now in
+    late_15 (as_plan c.args.plan.now) (length plan.order.now) c.args.room (as_start c.args.start) (width_in plan.file.now plan.scratch.now plan.lists.now plan.maps.now plan.order.now) c.if-n-room.false false (given (goal.at.returns-else-is_emitted c).In-Some ∙ sym c.is_emitted.ensures ∙ c.if-is_emitted.false)
 
--- src/page.rt:26:1
 pub returns-in-None : goal.returns-in-None
+returns-in-None c =
+    let plan = c.args.plan.now in
+    late_15 (as_plan c.args.plan.now) (length plan.order.now) c.args.room (as_start c.args.start) (width_in plan.file.now plan.scratch.now plan.lists.now plan.maps.now plan.order.now) c.if-n-room.false true (ap (λ (s : Option (List ℕ)). is_start (as_plan c.args.plan.now) (as_start s)) c.in-None.is)

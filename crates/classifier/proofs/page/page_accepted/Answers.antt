@@ -1,37 +1,27 @@
-use Rattle.std.proofs.Common.{rules, ◌≡◌, ◌≤◌, length, ℕ, ◌+◌, ◌-◌, ◌*◌, ◌<◌, ◌/◌, ◌%◌, Bool, true, false, nat_eq, nat_lt, List, [], ◌∷◌, ◌++◌, slice_index_or, slice_set, bit_and, bit_or, Fits, w8, w32, w64, Bor, MutBor, ℤ, pos, ◌+ℤ◌, ◌-ℤ◌, ◌*ℤ◌, ◌≤ℤ◌, ◌<ℤ◌, FitsSigned, to_z, of_z}
-use Rattle.std.proofs.Math.Option.{none}
-use Rattle.lists.specs.Lists.{over}
+use Rattle.std.proofs.Common.{◌∙◌, ◌≡◌, ◌<◌, ◌≤◌, ap, arith, length, pos, refl, replicate, rules}
 use Rattle.spec.specs.Record.{decoded}
-use Rattle.spec.specs.Refusal.{answer, file_fault, unless_refused}
-use Rattle.spec.specs.Shape.{shape_of}
-use Rattle.spec.specs.Code.{as_shape}
-use Rattle.compose.specs.Code.{as_engine, Opened}
-use Rattle.compose.specs.Plans.{as_plan, number_of}
-use Rattle.classifier.specs.Count.{scratch_after, scratch_for}
-use Rattle.classifier.specs.Page.{due_tuples, page_answer, page_fault, page_of, page_output, page_words}
-use Rattle.classifier.specs.Code.{as_page, as_paged, as_start, late_fault, late_number}
+use Rattle.spec.specs.Refusal.{refused}
+use Rattle.compose.specs.Code.{as_engine}
+use Rattle.classifier.specs.Code.{as_start}
+use Rattle.classifier.specs.Count.{scratch_for}
+use Rattle.classifier.proofs.Late.{leaves_late, leaves_short}
+use Rattle.classifier.proofs.page.page_accepted.Goals.{Else-scratch-room_for}
 use Rattle.classifier.proofs.page.page_accepted.Goals as goal
 
--- src/page.rt:89:9
-pub returns-then-scratch-room_for-clause-answer : goal.returns-then-scratch-room_for-clause-answer
-returns-then-scratch-room_for-clause-answer c = ?
+fits : (c : Else-scratch-room_for) → scratch_for (decoded c.args.file.now) ≤ length c.args.scratch.now
+fits c = omega (arith, c.room_for.ensures, c.if-scratch-room_for.false)
 
--- src/page.rt:89:9
-pub returns-then-scratch-room_for-clause-out : goal.returns-then-scratch-room_for-clause-out
-returns-then-scratch-room_for-clause-out c = ?
+pub returns-then-scratch-room_for : goal.returns-then-scratch-room_for
+returns-then-scratch-room_for c =
+    let r = leaves_short (as_engine c.args.engine) (length c.args.out.now) c.args.file.now (as_start c.args.start) c.args.out.now c.args.scratch.now refl c.requires.0 (omega (arith, c.room_for.ensures, c.if-scratch-room_for.true)) in
+    record { answer = ap refused c.at.ensures ∙ r.0; out = r.1; scratch = r.2 }
 
--- src/page.rt:89:9
-pub returns-then-scratch-room_for-clause-scratch :
-    goal.returns-then-scratch-room_for-clause-scratch
-returns-then-scratch-room_for-clause-scratch c = ?
+pub page_lent-page-requires : goal.page_lent-page-requires
+page_lent-page-requires c = (c.find_heads.ensures, fits (goal.at.page_lent-page-requires c).Else-scratch-room_for)
 
--- src/page.rt:73:1
-pub returns-clause-answer : goal.returns-clause-answer
-returns-clause-answer c = ?
-
--- src/page.rt:73:1
-pub returns-clause-out : goal.returns-clause-out
-returns-clause-out c = ?
-
--- src/page.rt:73:1
-pub returns-clause-scratch : goal.returns-clause-scratch
+pub returns : goal.returns
+returns c =
+    let p = c.page_lent-page in
+    let cleared : c.fill.new.self ≡ replicate (length c.args.scratch.now) (pos 0) = search rules in
+    let r = leaves_late (as_engine c.args.engine) (length c.args.out.now) c.args.file.now (as_start c.args.start) c.args.out.now c.args.scratch.now refl c.requires.0 (fits (goal.at.returns c).Else-scratch-room_for) _ p.new.out c.fill.new.self (p.ensures.answer, p.ensures.out) cleared in
+    record { answer = c.of_whole.ensures ∙ r.0; out = r.1; scratch = r.2 }
