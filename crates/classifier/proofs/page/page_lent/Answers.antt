@@ -1,5 +1,5 @@
 -- 12 and 13 by the plan, 14 and 15 by the output and the start, else the page.
-use Rattle.std.proofs.Common.{◌∙◌, ◌≡◌, ◌≤◌, Bool, List, ap, arith, false, length, not, refl, rules, subst, subst₂, sym, take, true, ℕ, ℤ}
+use Rattle.std.proofs.Common.{◌∙◌, ◌≡◌, ◌≤◌, List, [], ap, arith, length, not, refl, rules, subst, subst₂, sym, take, true, ℕ, ℤ}
 use Rattle.std.proofs.Math.Option.{none, some}
 use Rattle.std.proofs.lemmas.Result.{err_from_is_err_and}
 use Rattle.lists.specs.Lists.{over}
@@ -34,7 +34,7 @@ unplanned c = late_sound (as_engine c.args.engine) (decoded c.args.file.now) (le
 pub returns-in_err-laid-clause-answer : goal.returns-in_err-laid-clause-answer
 returns-in_err-laid-clause-answer c =
     let p = err_from_is_err_and c.from_residual.result c.from_residual.ensures.1 in
-    rw (p.1, p.2) (gives_refused _ _ _ c.args.out.now _ (unplanned (goal.at.returns-in_err-laid-clause-answer c).In_err-laid)).0
+    rw (p.1, p.2) (gives_refused _ _ [] c.args.out.now _ (unplanned (goal.at.returns-in_err-laid-clause-answer c).In_err-laid)).0
 
 pub returns-in_err-laid-clause-out : goal.returns-in_err-laid-clause-out
 returns-in_err-laid-clause-out c = (gives_refused _ (page_of (decoded c.args.file.now) (length c.args.out.now) (due_tuples (as_engine c.args.engine) (decoded c.args.file.now) (as_start c.args.start)) (as_start c.args.start)) _ c.args.out.now _ (unplanned (goal.at.returns-in_err-laid-clause-out c).In_err-laid)).1
@@ -94,7 +94,7 @@ pub returns-in_err-late-clause-answer : goal.returns-in_err-late-clause-answer
 returns-in_err-late-clause-answer c =
     let t = (goal.at.returns-in_err-late-clause-answer c).After-late in
     let p = err_from_is_err_and c.from_residual-in_err-late.result c.from_residual-in_err-late.ensures.1 in
-    rw (p.1, p.2) (gives_refused _ _ _ c.args.out.now _ (faulted t c.in_err-late.field-0.0 c.in_err-late.ensures)).0
+    rw (p.1, p.2) (gives_refused _ _ [] c.args.out.now _ (faulted t c.in_err-late.field-0.0 c.in_err-late.ensures)).0
 
 pub returns-in_err-late-clause-out : goal.returns-in_err-late-clause-out
 returns-in_err-late-clause-out c =
