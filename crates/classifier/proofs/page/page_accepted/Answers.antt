@@ -4,7 +4,7 @@ use Rattle.spec.specs.Refusal.{refused}
 use Rattle.compose.specs.Code.{as_engine}
 use Rattle.classifier.specs.Code.{as_start}
 use Rattle.classifier.specs.Count.{scratch_for}
-use Rattle.classifier.proofs.Late.{leaves_late, leaves_short}
+use Rattle.classifier.proofs.Late.{leaves_late, leaves_short, paged_whole}
 use Rattle.classifier.proofs.page.page_accepted.Goals.{Else-scratch-room_for}
 use Rattle.classifier.proofs.page.page_accepted.Goals as goal
 
@@ -24,4 +24,4 @@ returns c =
     let p = c.page_lent-page in
     let cleared : c.fill.new.self ≡ replicate (length c.args.scratch.now) (pos 0) = search rules in
     let r = leaves_late (as_engine c.args.engine) (length c.args.out.now) c.args.file.now (as_start c.args.start) c.args.out.now c.args.scratch.now refl c.requires.0 (fits (goal.at.returns c).Else-scratch-room_for) _ p.new.out c.fill.new.self (p.ensures.answer, p.ensures.out) cleared in
-    record { answer = c.of_whole.ensures ∙ r.0; out = r.1; scratch = r.2 }
+    record { answer = paged_whole p.result c.of_whole.result c.of_whole.ensures ∙ r.0; out = r.1; scratch = r.2 }
