@@ -1,4 +1,4 @@
-use Rattle.std.proofs.Common.{◌∙◌, ◌≡◌, Bool, List, Option, ap, false, length, sym, true, ℕ}
+use Rattle.std.proofs.Common.{◌∙◌, ◌≡◌, List, Option, ap, false, length, sym, true, ℕ}
 use Rattle.compose.specs.Plans.{as_plan}
 use Rattle.compose.specs.Walk.{is_tuple}
 use Rattle.compose.proofs.Stepping.{width_in}

@@ -1,4 +1,4 @@
-use Rattle.std.proofs.Common.{◌∙◌, ◌≡◌, ◌<◌, ◌≤◌, ap, arith, length, pos, refl, replicate, rules}
+use Rattle.std.proofs.Common.{◌∙◌, ◌≡◌, ◌≤◌, ap, arith, length, pos, refl, replicate, rules}
 use Rattle.spec.specs.Record.{decoded}
 use Rattle.spec.specs.Refusal.{refused}
 use Rattle.compose.specs.Code.{as_engine}

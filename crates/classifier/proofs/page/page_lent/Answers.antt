@@ -1,5 +1,5 @@
 -- 12 and 13 by the plan, 14 and 15 by the output and the start, else the page.
-use Rattle.std.proofs.Common.{◌∙◌, ◌≡◌, ◌≤◌, List, [], ap, arith, length, not, refl, rules, subst, subst₂, sym, take, true, ℕ, ℤ}
+use Rattle.std.proofs.Common.{◌∙◌, ◌≡◌, List, [], ap, arith, length, not, refl, rules, subst, sym, take, true, ℕ, ℤ}
 use Rattle.std.proofs.Math.Option.{none, some}
 use Rattle.std.proofs.lemmas.Result.{err_from_is_err_and}
 use Rattle.lists.specs.Lists.{over}
@@ -8,12 +8,12 @@ use Rattle.spec.specs.Record.{decoded}
 use Rattle.spec.specs.Refusal.{accepted}
 use Rattle.spec.specs.Spec.{Spec}
 use Rattle.spec.specs.declared.refusal.Fault.{Fault}
-use Rattle.compose.specs.Code.{Opened, Planned, as_engine, plan_in, sound_number}
-use Rattle.compose.specs.Plans.{as_plan, number_of}
+use Rattle.compose.specs.Code.{Opened, as_engine, plan_in, sound_number}
+use Rattle.compose.specs.Plans.{as_plan}
 use Rattle.compose.specs.Tuples.{Engine, zeros}
 use Rattle.compose.specs.Walk.{Plan, plan_of}
 use Rattle.compose.proofs.Prepared.{opened-few}
-use Rattle.classifier.specs.Code.{PageIs, as_paged, as_start, is_start, late_fault, late_number, paged, refused_with}
+use Rattle.classifier.specs.Code.{PageIs, as_start, is_start, late_fault, late_number, refused_with}
 use Rattle.classifier.specs.Page.{Page, Start, due, due_tuples, is_none, page_of, page_words}
 use Rattle.classifier.proofs.Answered.{fault-some, order-long, plan_lent, room_domains}
 use Rattle.classifier.proofs.Late.{Gives, fieldless, gives_page, gives_refused, late_none, late_number_lem, late_sound, late_start, none-due}
@@ -104,7 +104,7 @@ returns-in_err-late-clause-out c =
 -- without fields
 bare : (c : Then-n-eq0) → is_start (as_plan c.plan-plan.result) (as_start c.args.start) ≡ true → as_plan c.plan-plan.result ≡ plan_of (as_engine c.args.engine) (decoded c.args.file.now)
     → (record { count = 0; last = zeros 32; done = true } ≡ page_of (decoded c.args.file.now) (length c.args.out.now) (due_tuples (as_engine c.args.engine) (decoded c.args.file.now) (as_start c.args.start)) (as_start c.args.start))
-      × (c.args.out.now ≡ over (page_words (as_engine c.args.engine) (decoded c.args.file.now) (length c.args.out.now) (due_tuples (as_engine c.args.engine) (decoded c.args.file.now) (as_start c.args.start))) c.args.out.now)
+    × (c.args.out.now ≡ over (page_words (as_engine c.args.engine) (decoded c.args.file.now) (length c.args.out.now) (due_tuples (as_engine c.args.engine) (decoded c.args.file.now) (as_start c.args.start))) c.args.out.now)
 bare c b is = fieldless (as_engine c.args.engine) (decoded c.args.file.now) (length c.args.out.now) c.args.out.now (as_start c.args.start) (c.requires.0.fields_many ∙ c.if-n-eq0.true) (sym (ap (λ (p : Plan). is_start p (as_start c.args.start)) is) ∙ b)
 
 pub returns-then-n-eq0-clause-answer : goal.returns-then-n-eq0-clause-answer

@@ -1,4 +1,4 @@
-use Rattle.std.proofs.Common.{◌∙◌, List, Option, ℕ, ap, length, sym, take}
+use Rattle.std.proofs.Common.{◌∙◌, List, Option, ℕ, ap, sym, take}
 use Rattle.compose.specs.Plans.{as_plan, next_tuple}
 use Rattle.compose.proofs.Stepping.{width_in}
 use Rattle.classifier.specs.Code.{as_start, first_from}

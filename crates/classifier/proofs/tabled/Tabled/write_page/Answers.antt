@@ -1,18 +1,18 @@
 -- A tuple is written a turn, until there is none or no room.
-use Rattle.std.proofs.Common.{◌∙◌, ◌≡◌, ◌+◌, ◌++◌, ◌-◌, ◌<◌, ◌≤◌, Bool, List, [], ◌∷◌, None, Some, ℕ, ℤ, ap, arith, cond, drop, length, length-append, length-drop, pos, refl, replicate, rules, subst, sym, take}
+use Rattle.std.proofs.Common.{◌∙◌, ◌≡◌, ◌+◌, ◌-◌, ◌≤◌, Bool, List, [], ◌∷◌, ℕ, ℤ, ap, arith, cond, drop, length, length-append, length-drop, pos, refl, replicate, rules, subst, sym, take}
 use borrow.Rule.Slice.PartMut.{put_mid}
 use lib.Seq.{length-take-le}
 use Rattle.spec.specs.Record.{decoded}
 use Rattle.compose.specs.Code.{ChosenFrom, EnablesIn, Stands, as_engine, chosen_in, constraints_in, enables_of, is_enabling}
 use Rattle.compose.specs.Plans.{as_plan}
-use Rattle.compose.specs.Walk.{Plan, has_tuple_after, tuple_after}
+use Rattle.compose.specs.Walk.{has_tuple_after, tuple_after}
 use Rattle.compose.proofs.Stepping.{pick_in, picked_front, picked_long, stands_picked}
 use Rattle.compose.proofs.Walk.{from_tuple}
 use Rattle.evaluate.specs.Verdict.{evaluate}
-use Rattle.classifier.specs.Code.{PageIs, as_start, forced_row, rules_of}
+use Rattle.classifier.specs.Code.{as_start, forced_row, rules_of}
 use Rattle.classifier.specs.Count.{verdict_of}
 use Rattle.classifier.specs.Page.{due_tuples, start_tuple, words, words_of}
-use Rattle.classifier.proofs.Going.{Begun, Going, going_begun, going_due, going_last, going_next, going_over, going_padded, going_turn}
+use Rattle.classifier.proofs.Going.{Begun, going_begun, going_due, going_last, going_next, going_over, going_padded, going_turn}
 use Rattle.classifier.proofs.Paging.{Writing, next_fewer, page_finished, page_stopped, writing_none, writing_turn, writing_wide}
 use Rattle.classifier.proofs.Starts.{Wide}
 use Rattle.classifier.proofs.Turning.{turn_row, turn_settled, words_in, words_long, words_verdict}
@@ -146,8 +146,8 @@ turned : (c : After-write_verdict)
     → ChosenFrom c.args.self.now.walk.plan.file.now (rules_of c.args.self.now.heads.now (length c.args.self.now.walk.plan.order.now) c.args.self.now.constraints) 0 is_enabling (take c.enables_of-many.result c.enables_of-many.new.numbers)
     → length c.loop-out.out ≡ length c.args.out.now
     → Writing (words_in c.args.self.now.walk.plan.file.now c.args.self.now.heads.now (length c.args.self.now.walk.plan.order.now) c.args.self.now.constraints (as_plan c.args.self.now.walk.plan).lists (take c.enables_of-many.result c.enables_of-many.new.numbers)) (length c.args.self.now.walk.plan.order.now + 4) c.args.out.now
-        (from_tuple (as_plan c.args.self.now.walk.plan) (take (length c.args.self.now.walk.plan.order.now) c.in-Some.t)) c.start_tuple-last.result (c.loop-out.at + (length c.args.self.now.walk.plan.order.now + 4)) (c.loop-out.count + 1) c.loop-out.tuple
-        (put_mid c.loop-out.at (c.loop-out.at + (length c.args.self.now.walk.plan.order.now + 4) - c.loop-out.at) c.loop-out.out c.write_verdict.new.out)
+    (from_tuple (as_plan c.args.self.now.walk.plan) (take (length c.args.self.now.walk.plan.order.now) c.in-Some.t)) c.start_tuple-last.result (c.loop-out.at + (length c.args.self.now.walk.plan.order.now + 4)) (c.loop-out.count + 1) c.loop-out.tuple
+    (put_mid c.loop-out.at (c.loop-out.at + (length c.args.self.now.walk.plan.order.now + 4) - c.loop-out.at) c.loop-out.out c.write_verdict.new.out)
 turned c ch ki wide =
     let self = c.args.self.now in
     let l = c.loop-out in
