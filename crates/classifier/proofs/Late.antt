@@ -1,4 +1,5 @@
 -- 12 to 15, and what page answers and leaves with them and without.
+use Rattle.std.specs.Prelude.{Err, Ok, Result}
 use mathlib.Core.Bool.{Bool, ◌&&◌, cond, false, false≢true, not, true}
 use mathlib.Core.List.{List, []}
 use mathlib.Core.Option.{Option, get_or, none, some}
@@ -22,7 +23,10 @@ use Rattle.compose.specs.Walk.{Plan, plan_of}
 use Rattle.compose.proofs.Found.{no_tuple}
 use Rattle.compose.proofs.Walk.{Ready, plan_width}
 use Rattle.evaluate.specs.Code.{checks_of, unsettled}
-use Rattle.classifier.specs.Code.{is_start, late_fault, late_number, refused_with, rules_of}
+use Rattle.spec.specs.declared.refusal.Fault.{Fault}
+use Rattle.spec.specs.declared.refusal.Refusal.{Refusal}
+use Rattle.classifier.specs.declared.writing.Page as code
+use Rattle.classifier.specs.Code.{OfWhole, as_page, as_paged, is_start, late_fault, late_number, refused_with, rules_of}
 use Rattle.classifier.specs.Count.{engine_fault, scratch_after, scratch_for}
 use Rattle.classifier.specs.Page.{Page, Start, after_tuple, beginning, due, due_tuples, is_none, output_short, page_answer, page_fault, page_of, page_output, page_words, words_of}
 use Rattle.classifier.proofs.Answered.{fault_file, fault_room, fault_short}
@@ -162,3 +166,9 @@ module _ (engine : Engine) (room : ℕ) (file : List ℕ) (start : Start) (old s
       → left ≡ replicate (length scratch) (pos 0) → Leaves a out left
   unfolding page_fault
   leaves_late er good fits a out left g l = leaves_by er (late_fault engine (decoded file) room start) (rw (fault_room engine (length scratch) file good fits)) a out left g (l ∙ sym (late_clears engine (decoded file) room start scratch))
+
+-- ---- a fault of the whole
+pub paged_whole : (t : Result code.Page Fault) (r : Result code.Page Refusal) → OfWhole t r → as_page r ≡ as_paged t
+paged_whole (Ok x) r e = ap as_page e
+paged_whole (Err f) (Ok x) e = absurd e
+paged_whole (Err f) (Err q) e = ap refused e

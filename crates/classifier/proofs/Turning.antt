@@ -10,7 +10,7 @@ use lib.ListN.{length, length-append, take}
 use Rattle.spec.specs.Record.{decoded}
 use Rattle.spec.proofs.Named.{width}
 use Rattle.registry.specs.Code.{RowIn}
-use Rattle.compose.specs.Code.{MaybeMap, ChosenFrom, Stands, chosen_in, constraints_in, enables_of, plan_in}
+use Rattle.compose.specs.Code.{MaybeMap, ChosenFrom, Stands, chosen_in, constraints_in, enables_of, is_enabling, plan_in}
 use Rattle.compose.specs.declared.places.Span.{Span}
 use Rattle.compose.specs.Force.{force}
 use Rattle.compose.specs.Tuples.{Engine, lists_of, values}
@@ -41,7 +41,7 @@ length-words v = ap (λ (k : ℕ). suc (suc k)) (length-append (projection_words
 
 module _ {engine : Engine} {file heads : List ℕ} {c : ℕ} {checks due : List ℕ} {scratch : List ℤ} {lists : List Span} {maps : List MaybeMap} {order : List ℕ} (w : Walking engine file heads c checks due scratch lists maps order)
     (numbers : List ℕ) (chosen : chosen_in file (rules_of heads (length order) c) numbers ≡ enables_of engine (constraints_in file (rules_of heads (length order) c)))
-    (kinds : ChosenFrom file (rules_of heads (length order) c) 0 20 22 numbers) where
+    (kinds : ChosenFrom file (rules_of heads (length order) c) 0 is_enabling numbers) where
   abbrev plan : Plan
   plan = plan_in file scratch lists maps order
 

@@ -53,7 +53,7 @@ pub flag_no : (place : ℕ) → ¬ (place ≡ 0) → pos 0 ≡ flag (eqb place 0
 flag_no place h = sym (ap flag (eqb_no place 0 h))
 
 -- ---- a verdict
-module _ {file fields rules enables checks due : List ℕ} {raw : List ℤ} (j : JudgingIn file fields rules enables checks due (length raw)) where
+module _ {file fields rules enables checks due : List ℕ} (raw : List ℤ) (j : JudgingIn file fields rules enables checks due (length raw)) where
   pub forced_long : length (forced_row file rules enables raw) ≡ length raw
   forced_long = length_forced (chosen_in file rules enables) raw
 

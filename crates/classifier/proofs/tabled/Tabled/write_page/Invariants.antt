@@ -1,5 +1,5 @@
 -- The first tuples that are due are written, and the next one stands in `tuple`.
-use Rattle.std.proofs.Common.{◌+◌, length, take}
+use Rattle.std.proofs.Common.{◌+◌, ◌-◌, length, take}
 use Rattle.compose.specs.Plans.{as_plan}
 use Rattle.compose.proofs.Walk.{from_tuple}
 use Rattle.classifier.proofs.Going.{Going}
@@ -16,4 +16,4 @@ invariant-loop-out l =
     × Going (as_plan plan) n due l.count l.tuple l.raw
 
 abbrev pub decreases-loop-out : goal.decreases-loop-out
-decreases-loop-out l = length (from_tuple (as_plan l.self.walk.plan) (take (length l.self.walk.plan.order.now) l.tuple))
+decreases-loop-out l = length (from_tuple (as_plan l.self.walk.plan) (take (length l.self.walk.plan.order.now) l.initial.tuple)) - l.count
