@@ -52,9 +52,6 @@ module _ (c : In-loop-i) where
 pub overflow_mul-from : goal.overflow_mul-from
 overflow_mul-from c = let h = below (goal.at.overflow_mul-from c).In-loop-i in search rules
 
-pub overflow_add-to : goal.overflow_add-to
-overflow_add-to c = let h = below (goal.at.overflow_add-to c).In-loop-i in search rules
-
 pub offset_bounds-words-from : goal.offset_bounds-words-from
 offset_bounds-words-from c = let h = below (goal.at.offset_bounds-words-from c).In-loop-i in search rules
 

@@ -1,0 +1,21 @@
+-- Each piece stands right after the one before it; the room is enough since a number has at most 20 digits.
+use mathlib.Core.List.{◌++◌}
+use native.Mathlib.Omega.{arith}
+use lib.ListN.{length-append}
+use Rattle.spec.specs.Code.{fault_number}
+use Rattle.listing.specs.Text.{decimal, spaced, newline, refused_word, refused_line}
+use Rattle.listing.proofs.Buffer.{put_after}
+use Rattle.listing.proofs.text.put_refused.Goals as goal
+
+pub returns : goal.returns
+unfolding refused_line
+returns c =
+    let byte = c.put_byte in
+    let second = c.put_spaced-end in
+    let first = c.put_spaced-records in
+    let word = c.put_word-numbers in
+    let args = c.args in
+    let number = spaced (decimal (fault_number args.r.fault)) in
+    let place = spaced (decimal args.r.record) in
+    let tail = put_after first.new.out second.new.out byte.new.out first.result second.result place newline second.ensures.out_after second.ensures.value byte.ensures.out_after in
+    let numbers = put_after word.new.out first.new.out byte.new.out word.result first.result number (place ++ newline) first.ensures.out_after first.ensures.value tail in record { out_after = put_after args.out.now word.new.out byte.new.out args.at word.result refused_word (number ++ (place ++ newline)) word.ensures.out_after word.ensures.value numbers; value = omega (arith, word.ensures.value, first.ensures.value, second.ensures.value, byte.ensures.value, length-append (decimal (fault_number args.r.fault)) (place ++ newline), length-append (decimal args.r.record) newline); upper_bound = omega (arith, word.ensures.value, first.ensures.upper_bound, second.ensures.upper_bound, byte.ensures.value) }
