@@ -1,12 +1,10 @@
 -- What a turn of a page asks and writes, on a plan that lies in the file and the scratch.
 use mathlib.Core.Bool.{true}
 use mathlib.Core.List.{List}
-use mathlib.Core.Option.{Option, none, some}
 use mathlib.Core.Path.{◌∙◌, ◌≡◌, ap, fun_ext, subst, sym}
 use Prim.Native.Nat.{◌+◌, suc, ℕ}
-use native.Mathlib.Omega.{arith}
 use lib.IntN.{ℤ}
-use lib.ListN.{length, length-append, take}
+use lib.ListN.{length, take}
 use Rattle.spec.specs.Record.{decoded}
 use Rattle.spec.proofs.Named.{width}
 use Rattle.registry.specs.Code.{RowIn}
@@ -21,23 +19,17 @@ use Rattle.compose.proofs.Forcing.{length_forced}
 use Rattle.compose.proofs.Rows.{length-values}
 use Rattle.compose.proofs.Stepping.{width_in}
 use Rattle.compose.proofs.Walk.{plan_lists}
-use Rattle.evaluate.specs.Verdict.{Verdict, evaluate}
+use Rattle.evaluate.specs.Verdict.{evaluate}
 use Rattle.classifier.specs.Code.{Settled, Walking, forced_row, rules_of}
 use Rattle.classifier.specs.Count.{verdict_of}
-use Rattle.classifier.specs.Page.{projection_words, words}
+use Rattle.classifier.specs.Page.{words}
 use Rattle.classifier.proofs.Going.{Begun, going_held}
+use Rattle.classifier.proofs.Wording.{words-length}
 use Rattle.classifier.proofs.Walked.{forced_is, walking_settled, walking_wide}
 
 -- The words of a tuple's verdict, n fields and c constraints standing at the heads, and the numbers those of the enable records.
 abbrev pub words_in : List ℕ → List ℕ → ℕ → ℕ → List (List ℤ) → List ℕ → List ℕ → List ℤ
 words_in file heads n c lists numbers t = words (evaluate (decoded file) (forced_row file (rules_of heads n c) numbers (values lists t)))
-
-length-words : (v : Verdict) → length (words v) ≡ length v.values + 4
-length-words v = ap (λ (k : ℕ). suc (suc k)) (length-append (projection_words v.projection) v.values) ∙ go v.projection
-  where
-    go : (p : Option ℤ) → suc (suc (length (projection_words p) + length v.values)) ≡ length v.values + 4
-    go none = omega arith
-    go (some x) = omega arith
 
 module _ {engine : Engine} {file heads : List ℕ} {c : ℕ} {checks due : List ℕ} {scratch : List ℤ} {lists : List Span} {maps : List MaybeMap} {order : List ℕ} (w : Walking engine file heads c checks due scratch lists maps order)
     (numbers : List ℕ) (chosen : chosen_in file (rules_of heads (length order) c) numbers ≡ enables_of engine (constraints_in file (rules_of heads (length order) c)))
@@ -63,7 +55,7 @@ module _ {engine : Engine} {file heads : List ℕ} {c : ℕ} {checks due : List 
     pub words_long : length (words_in file heads (length order) c (plan_in file scratch lists maps order).lists numbers (take (length order) tuple)) ≡ length order + 4
     words_long =
         let row = values plan.lists (take (length order) tuple) in
-        length-words (evaluate (decoded file) (forced_row file (rules_of heads (length order) c) numbers row)) ∙ ap (λ (k : ℕ). k + 4) (length_forced (chosen_in file (rules_of heads (length order) c) numbers) row ∙ ap length (sym st.row_is) ∙ raw-long)
+        words-length (evaluate (decoded file) (forced_row file (rules_of heads (length order) c) numbers row)) ∙ ap (λ (k : ℕ). k + 4) (length_forced (chosen_in file (rules_of heads (length order) c) numbers) row ∙ ap length (sym st.row_is) ∙ raw-long)
 
     fits : Placed (width (decoded file)) (length_at (plan_of engine (decoded file))) (take (length order) tuple) × (held engine (decoded file) (take (length order) tuple) ≡ true)
     fits = going_held w tuple b

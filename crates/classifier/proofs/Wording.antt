@@ -1,7 +1,7 @@
 -- The words of a verdict, where they stand: its row from word 4 on, the rest before it.
 use mathlib.Core.List.{List, [], ◌++◌, ◌∷◌, append-nil, map}
 use mathlib.Core.Option.{Option, none, some}
-use mathlib.Core.Path.{◌∙◌, ◌≡◌, ap, refl, sym}
+use mathlib.Core.Path.{◌∙◌, ◌≡◌, ap}
 use Prim.Native.Nat.{◌+◌, ◌-◌, ◌/◌, ◌≤◌, ℕ}
 use native.Mathlib.Omega.{arith}
 use borrow.Rule.Slice.PartMut.{put_mid}
@@ -10,7 +10,6 @@ use lib.IntN.{pos, ℤ}
 use lib.ListN.{drop, drop_of_length-le, length, length-append, length-drop, length-map, set, take}
 use lib.Seq.{drop_at, length-take-le, take_all}
 use Rattle.lists.proofs.First.{first_false_le}
-use Rattle.lists.proofs.Tests.{eqb_no, eqb_yes}
 use Rattle.spec.specs.Record.{decoded}
 use Rattle.registry.specs.Check.{holds}
 use Rattle.registry.specs.Code.{group_in, project_of}
@@ -31,26 +30,12 @@ words-length v = go v.projection
     go (some x) = omega arith
 
 -- ---- words before a row
-pub put_two : (l : List ℤ) (a b : ℤ) → 4 ≤ length l → set (set l 2 a) 3 b ≡ take 2 l ++ (a ∷ b ∷ drop 4 l)
-put_two [] a b h = absurd (omega arith)
-put_two (x ∷ []) a b h = absurd (omega arith)
-put_two (x ∷ y ∷ []) a b h = absurd (omega arith)
-put_two (x ∷ y ∷ z ∷ []) a b h = absurd (omega arith)
-put_two (x ∷ y ∷ z ∷ v ∷ l) a b h = refl
-
 put_four : (l row ps : List ℤ) (a b : ℤ) → 4 ≤ length l → drop 4 l ≡ row → take 2 (set (set l 0 a) 1 b) ++ (ps ++ drop 4 (set (set l 0 a) 1 b)) ≡ a ∷ b ∷ (ps ++ row)
 put_four [] row ps a b h e = absurd (omega arith)
 put_four (x ∷ []) row ps a b h e = absurd (omega arith)
 put_four (x ∷ y ∷ []) row ps a b h e = absurd (omega arith)
 put_four (x ∷ y ∷ z ∷ []) row ps a b h e = absurd (omega arith)
 put_four (x ∷ y ∷ z ∷ v ∷ l) row ps a b h e = ap (λ (r : List ℤ). a ∷ b ∷ (ps ++ r)) e
-
--- ---- the flag
-pub flag_yes : (place : ℕ) → place ≡ 0 → pos 1 ≡ flag (eqb place 0)
-flag_yes place e = sym (ap flag (eqb_yes place 0 e))
-
-pub flag_no : (place : ℕ) → ¬ (place ≡ 0) → pos 0 ≡ flag (eqb place 0)
-flag_no place h = sym (ap flag (eqb_no place 0 h))
 
 -- ---- a verdict
 module _ {file fields rules enables checks due : List ℕ} (raw : List ℤ) (j : JudgingIn file fields rules enables checks due (length raw)) where
