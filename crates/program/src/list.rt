@@ -3,9 +3,9 @@ ghost use Rattle.std.specs.Prelude.{◌≡◌, ◌*◌, ◌≤◌, length, take}
 ghost use Rattle.compose.specs.Code.{as_engine};
 ghost use Rattle.classifier.specs.Count.{count_answer};
 ghost use Rattle.classifier.specs.Page.{page_answer};
-ghost use Rattle.classifier.specs.Code.{as_start, last_by};
+ghost use Rattle.classifier.specs.Code.{as_start};
 ghost use Rattle.listing.specs.Counts.{IsPrefixLen};
-ghost use Rattle.program.specs.Printed.{fields_or, is_more, last_line, page_lines};
+ghost use Rattle.program.specs.Printed.{as_next, fields_or, last_line, next_of, page_lines};
 
 use crate::{ROOM, read_input};
 use classifier::count::count;
