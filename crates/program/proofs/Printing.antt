@@ -16,6 +16,9 @@ use Rattle.spec.specs.declared.refusal.Refusal as code'
 use Rattle.listing.specs.Counts.{IsPrefixLen}
 use Rattle.lists.specs.Lists.{concat_map, eq_list}
 use Rattle.lists.proofs.All.{All, All-filter, All_imp, All-mapped, []ᴬ, ◌∷ᴬ◌}
+use Rattle.spec.specs.Code.{fault_number}
+use Rattle.spec.specs.declared.refusal.Fault.{Fault}
+use Rattle.spec.specs.declared.refusal.Fault.TheVariants as faults
 use Rattle.spec.specs.Record.{decoded}
 use Rattle.spec.specs.Refusal.{Refused, accepted, answer, file_fault, unless_refused}
 use Rattle.spec.specs.Spec.{Spec}
@@ -131,6 +134,25 @@ refused_short r a b =
     let n = spaced (decimal r.number) in
     let i = spaced (decimal r.at) in
     omega (arith, number_short r.number a, number_short r.at b, length-append i newline, length-append n (i ++ newline))
+
+-- The number of a fault is small.
+pub fault_small : (f : Fault) → fault_number f < 2 ^ 64
+fault_small faults.WrongLength = omega arith
+fault_small faults.UnknownKind = omega arith
+fault_small faults.StrayByte = omega arith
+fault_small faults.OutOfOrder = omega arith
+fault_small faults.TooMany = omega arith
+fault_small faults.NoSuchField = omega arith
+fault_small faults.OffScale = omega arith
+fault_small faults.EmptyDomain = omega arith
+fault_small faults.BadPacking = omega arith
+fault_small faults.TooLarge = omega arith
+fault_small faults.ScratchShort = omega arith
+fault_small faults.CyclicMaps = omega arith
+fault_small faults.ChildlessKey = omega arith
+fault_small faults.OutputShort = omega arith
+fault_small faults.NotEmitted = omega arith
+fault_small faults.NotASum = omega arith
 
 -- ---- the lines of a page
 accepted_told : (o : Option Refused) (x y : Page) → accepted y ≡ answer o x → (o ≡ none) × (y ≡ x)

@@ -28,7 +28,10 @@ const TEXT: usize = 86016;
 pub fn fields_of(file: &[u8]) -> usize
     ensures { result ≡ fields_or file.now }
 {
-    validate(file).map_or(0, |shape| shape.fields)
+    match validate(file) {
+        Ok(shape) => shape.fields,
+        Err(_) => 0,
+    }
 }
 
 // The last line, at the start of the text; how many bytes.
