@@ -1,5 +1,5 @@
 -- What the program prints: how many fields a file has, a line at the start of the text, and the lines of a page from its words.
-use Rattle.std.specs.Prelude.{Err, Ok}
+use Rattle.std.specs.Prelude.{Ok}
 use mathlib.Core.Bool.{Bool, false, true}
 use mathlib.Core.List.{List, [], ◌++◌, ◌∷◌, map}
 use mathlib.Core.Option.{Option, get_or, none, some}
@@ -12,7 +12,6 @@ use lib.ListN.{drop, length, length-append, take}
 use lib.Seq.{length-take-le}
 use Rattle.classifier.specs.Code.{as_page, paged}
 use Rattle.classifier.specs.declared.writing.Page as code
-use Rattle.spec.specs.declared.refusal.Refusal as code'
 use Rattle.listing.specs.Counts.{IsPrefixLen}
 use Rattle.lists.specs.Lists.{concat_map, eq_list}
 use Rattle.lists.proofs.All.{All, All-filter, All_imp, All-mapped, []ᴬ, ◌∷ᴬ◌}
@@ -40,7 +39,7 @@ use Rattle.listing.specs.Words.{after_if, can_list, lines_of, put_if}
 use Rattle.listing.proofs.Buffer.{put_first}
 use Rattle.listing.proofs.Decimal.{decimal_short}
 use Rattle.listing.proofs.Lines.{lines_fit, lines_front, lines_words, listed}
-use Rattle.program.specs.Printed.{fields_if, fields_or, next_of, page_lines, unless_done}
+use Rattle.program.specs.Printed.{fields_if, fields_or, page_lines}
 use Rattle.classifier.proofs.Wording.{words-length}
 
 -- ---- how many fields
@@ -197,44 +196,38 @@ module _ (engine : Engine) (file : List ℕ) (start : Start) (old : List ℤ) wh
       ∙ ap (λ (k : ℕ). lines_of k (words_of (width s)) (concat_map words vs)) (sym verdicts_many)
       ∙ lines_words (width s) verdicts-long ∙ sym (concat_mapped verdict_line (verdict_of engine s) (take fit ts))
 
-  module _ (scratch : ℕ) where
-    -- Refused: no lines, and none follow.
-    pub page_refused : (r : code'.Refusal) → as_page (Err r) ≡ page_answer engine scratch (length old) file start
-        → ([] ≡ page_lines engine file start (page_answer engine scratch (length old) file start)) × (none ≡ next_of (page_answer engine scratch (length old) file start))
-    page_refused r told = (ap (page_lines engine file start) told, ap next_of told)
+  module _ (scratch : ℕ) (p : code.Page) (told : as_page (Ok p) ≡ page_answer engine scratch (length old) file start) where
+    page_told : (page_fault engine scratch (length old) file start ≡ none) × (paged p ≡ page_of s (length old) ts start)
+    unfolding page_answer
+    page_told = accepted_told (page_fault engine scratch (length old) file start) (page_of s (length old) ts start) (paged p) told
 
-    module _ (p : code.Page) (told : as_page (Ok p) ≡ page_answer engine scratch (length old) file start) where
-      page_told : (page_fault engine scratch (length old) file start ≡ none) × (paged p ≡ page_of s (length old) ts start)
-      unfolding page_answer
-      page_told = accepted_told (page_fault engine scratch (length old) file start) (page_of s (length old) ts start) (paged p) told
+    count_is : p.count ≡ fit
+    unfolding page_of
+    count_is = ap (λ (q : Page). q.count) page_told.1
 
-      count_is : p.count ≡ fit
-      unfolding page_of
-      count_is = ap (λ (q : Page). q.count) page_told.1
+    good : file_fault file ≡ none
+    unfolding page_fault count_fault
+    good = ▷_left (file_fault file) _ (▷_left (count_fault engine scratch file) _ page_told.0)
 
-      good : file_fault file ≡ none
-      unfolding page_fault count_fault
-      good = ▷_left (file_fault file) _ (▷_left (count_fault engine scratch file) _ page_told.0)
+    output_is : page_output engine scratch file start old ≡ concat_map words vs ++ drop (length (concat_map words vs)) old
+    unfolding page_output
+    output_is =
+        ap (λ (o : Option Refused). unless_refused o (page_words engine s (length old) ts ++ drop (length (page_words engine s (length old) ts)) old) old) page_told.0
+        ∙ ap (λ (w : List ℤ). w ++ drop (length w) old) page_is
 
-      output_is : page_output engine scratch file start old ≡ concat_map words vs ++ drop (length (concat_map words vs)) old
-      unfolding page_output
-      output_is =
-          ap (λ (o : Option Refused). unless_refused o (page_words engine s (length old) ts ++ drop (length (page_words engine s (length old) ts)) old) old) page_told.0
-          ∙ ap (λ (w : List ℤ). w ++ drop (length w) old) page_is
-
-      -- A page: its lines stand at the start of the text.
-      pub page_printed : (out : List ℤ) (n r : ℕ) (text new : List ℕ) → out ≡ page_output engine scratch file start old → n ≡ fields_or file → length old * 21 ≤ length text
-          → new ≡ put_if (can_list text out p.count (n + 4)) (lines_of p.count (n + 4) out) 0 text → r ≡ after_if (can_list text out p.count (n + 4)) (lines_of p.count (n + 4) out) 0 → r ≤ length text
-          → (IsPrefixLen r new) × ((take r new ≡ page_lines engine file start (page_answer engine scratch (length old) file start)) × (unless_done p.done p.last ≡ next_of (page_answer engine scratch (length old) file start)))
-      page_printed out n r text new eo en room put end fits =
-          let wide : n ≡ width s = en ∙ sym (fields-accepted file (width s) good refl) in
-          let rest = drop (length (concat_map words vs)) old in
-          let is : out ≡ concat_map words vs ++ rest = eo ∙ output_is in
-          let many : p.count * (n + 4) ≡ fit * words_of (width s) = ap₂ (λ (c k : ℕ). c * (k + 4)) count_is wide in
-          let long : length out ≡ length (concat_map words vs) + length rest = ap (λ (l : List ℤ). length l) is ∙ length-append (concat_map words vs) rest in
-          let can : can_list text out p.count (n + 4) ≡ true = listed text out p.count (n + 4) (omega arith) (omega (arith, many, long, page_long)) (omega (arith, many, page_fits, room)) in
-          let lines : lines_of p.count (n + 4) out ≡ concat_map (λ t. verdict_line (verdict_of engine s t)) (take fit ts) =
-          ap₂ (λ (c k : ℕ). lines_of c (k + 4) out) count_is wide ∙ ap (lines_of fit (words_of (width s))) is ∙ page_lines_lem rest
-          in
-          let stands = put_within text new (lines_of p.count (n + 4) out) r (can_list text out p.count (n + 4)) can put end fits in
-          (stands.0, (stands.1 ∙ lines ∙ ap (λ (k : ℕ). concat_map (λ t. verdict_line (verdict_of engine s t)) (take k ts)) (sym count_is) ∙ ap (page_lines engine file start) told, ap next_of told))
+    -- A page: its lines stand at the start of the text.
+    pub page_printed : (out : List ℤ) (n r : ℕ) (text new : List ℕ) → out ≡ page_output engine scratch file start old → n ≡ fields_or file → length old * 21 ≤ length text
+        → new ≡ put_if (can_list text out p.count (n + 4)) (lines_of p.count (n + 4) out) 0 text → r ≡ after_if (can_list text out p.count (n + 4)) (lines_of p.count (n + 4) out) 0 → r ≤ length text
+        → (IsPrefixLen r new) × (take r new ≡ page_lines engine file start (page_answer engine scratch (length old) file start))
+    page_printed out n r text new eo en room put end fits =
+        let wide : n ≡ width s = en ∙ sym (fields-accepted file (width s) good refl) in
+        let rest = drop (length (concat_map words vs)) old in
+        let is : out ≡ concat_map words vs ++ rest = eo ∙ output_is in
+        let many : p.count * (n + 4) ≡ fit * words_of (width s) = ap₂ (λ (c k : ℕ). c * (k + 4)) count_is wide in
+        let long : length out ≡ length (concat_map words vs) + length rest = ap (λ (l : List ℤ). length l) is ∙ length-append (concat_map words vs) rest in
+        let can : can_list text out p.count (n + 4) ≡ true = listed text out p.count (n + 4) (omega arith) (omega (arith, many, long, page_long)) (omega (arith, many, page_fits, room)) in
+        let lines : lines_of p.count (n + 4) out ≡ concat_map (λ t. verdict_line (verdict_of engine s t)) (take fit ts) =
+        ap₂ (λ (c k : ℕ). lines_of c (k + 4) out) count_is wide ∙ ap (lines_of fit (words_of (width s))) is ∙ page_lines_lem rest
+        in
+        let stands = put_within text new (lines_of p.count (n + 4) out) r (can_list text out p.count (n + 4)) can put end fits in
+        (stands.0, stands.1 ∙ lines ∙ ap (λ (k : ℕ). concat_map (λ t. verdict_line (verdict_of engine s t)) (take k ts)) (sym count_is) ∙ ap (page_lines engine file start) told)
