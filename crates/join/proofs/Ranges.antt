@@ -23,7 +23,7 @@ use Rattle.spec.proofs.Fields.{kind_of_lem, length_records, record_get_d}
 use Rattle.spec.proofs.Good.{ConstraintGood, FieldsGood, GoodBy, MemberGood, MembersGood, Whole, constraint_groups, field_groups, good_parts, head_is, whole_flat}
 use Rattle.spec.proofs.Groups.{flat, groups_proper, records_in}
 use Rattle.spec.proofs.Sections.{OneSection, constraint_records, field_records, good_sections, in_part}
-use Rattle.compose.proofs.Chosen.{kind_beyond}
+use Rattle.compose.proofs.Opening.{kind_beyond}
 use Rattle.compose.proofs.Grouped.{Laid, Unstray, constraint-names, good_laid, unnot, unstrayed}
 use Rattle.join.specs.Code.{MovesIn, bytes_at}
 use Rattle.join.specs.Join.{add_if, in_section, is_sum, moves, projector_at, section}

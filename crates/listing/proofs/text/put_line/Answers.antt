@@ -37,7 +37,7 @@ projection-is c =
     let word = word_at c.args.words.now 2 in
     let fits : SFits w64 word = search rules in
     elim c.if-words-eq1-2.branch [
-      | then-words-eq1-2 w ↦ ap (λ p. projection_text (as_projection p)) w.projection-is ∙ ap (λ (b : Bool). projection_if b (word_at c.args.words.now 3)) (sym (is_one word fits w.if-words-eq1-2.true))
+      | then-words-eq1-2 w ↦ ap (λ p. projection_text (as_projection p)) w.projection-is ∙ ap signed_decimal (to_z-of_z w64 (word_at c.args.words.now 3) (let f : SFits w64 (word_at c.args.words.now 3) = search rules in f)) ∙ ap (λ (b : Bool). projection_if b (word_at c.args.words.now 3)) (sym (is_one word fits w.if-words-eq1-2.true))
       | else-words-eq1-2 w ↦ ap (λ p. projection_text (as_projection p)) w.projection-is ∙ ap (λ (b : Bool). projection_if b (word_at c.args.words.now 3)) (sym (not_one word fits w.if-words-eq1-2.false))
     ]
 

@@ -2,11 +2,12 @@
 use mathlib.Core.Path.{ap, refl}
 use Prim.Native.Nat.{◌+◌}
 use native.Mathlib.Omega.{arith}
-use borrow.Author.Rules.{sfits_of}
+use borrow.Author.Rules.{rules}
 use lib.IntN.{pos}
 use lib.ListN.{drop, drop_of_length-le, get_or, length}
 use lib.Seq.{sets}
 use mir.Syntax.{w64}
+use mir.Val.{SFits}
 use mir.ValLaws.{to_z-of_z}
 use Rattle.listing.specs.Text.{signed_decimal, spaced}
 use Rattle.listing.proofs.Buffer.{left_end, left_more, pieces_more}
@@ -24,7 +25,7 @@ loop-number-preserved c =
     let put = c.put_value-next in
     let number = get_or numbers here.number-index (pos 0) in
     let piece = spaced (signed_decimal number) in
-    let puts = rw (to_z-of_z w64 number (sfits_of c.put_value-arg-in-loop-number-1.given)) at put.ensures in
+    let puts = rw (to_z-of_z w64 number (let fits : SFits w64 number = search rules in fits)) at put.ensures in
     (omega arith, omega (arith, puts.upper_bound), left_more (sets args.out.now args.at (values_text numbers)) (args.at + length (values_text numbers)) here.out put.new.out here.next put.result piece (values_text (drop (here.number-index + 1) numbers)) (values_text (drop here.number-index numbers)) (pieces_more (λ x. spaced (signed_decimal x)) numbers here.number-index (pos 0) (omega arith)) puts.out_after puts.value here.invariant.2)
 
 pub shape_of-out : goal.shape_of-out

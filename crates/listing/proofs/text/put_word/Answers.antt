@@ -1,5 +1,5 @@
 -- The part of the buffer holds the word.
-use mathlib.Core.List.{◌++◌}
+use mathlib.Core.List.{List, ◌++◌, append_assoc}
 use mathlib.Core.Path.{◌∙◌, ◌≡◌, ap, ap₂, sym}
 use Prim.Native.Nat.{◌+◌, ◌-◌, ℕ}
 use native.Mathlib.Omega.{arith}
@@ -12,5 +12,6 @@ returns-clause-out_after c =
     let args = c.args in
     let old = args.out.now in
     let word = args.word.now in
-    let room = c.requires in
-    ap₂ (λ front back. front ++ back) (ap (λ (k : ℕ). take k old) (let e : args.at ≡ args.at = omega arith in e)) (ap₂ (λ new rest. new ++ rest) c.copy_from_slice.ensures.after (drop-drop (args.at + length word - args.at) args.at old ∙ ap (λ (k : ℕ). drop k old) (let e : args.at + (args.at + length word - args.at) ≡ args.at + length word = omega arith in e))) ∙ sym (sets-eq word old args.at room)
+    let back : drop (args.at + length word - args.at) (drop args.at old) ≡ drop (args.at + length word) old = drop-drop (args.at + length word - args.at) args.at old ∙ ap (λ (k : ℕ). drop k old) (let e : args.at + (args.at + length word - args.at) ≡ args.at + length word = omega arith in e) in
+    let inner = ap₂ (λ (new rest : List ℕ). new ++ rest) c.copy_from_slice.ensures.after back in
+    ap (λ (rest : List ℕ). take args.at old ++ rest) inner ∙ sym (append_assoc (take args.at old) word (drop (args.at + length word) old)) ∙ sym (sets-eq word old args.at c.requires)
