@@ -14,7 +14,7 @@ overflow_add-width c = omega (arith, c.fields_of-width.ensures, fields-few c.arg
 pub clear_places-requires : goal.clear_places-requires
 clear_places-requires c = (omega arith, omega (arith, c.fields_of-width.ensures, fields-few c.args.file.now))
 
-pub returns-in-Ok : goal.returns-in-Written
+pub returns-in-Ok : goal.returns-in-Ok
 returns-in-Ok c =
     let put = c.put_verdicts in
     let few : put.result ≤ length put.new.out = search rules in
