@@ -1,5 +1,5 @@
 -- A joined file has room in 65,536 bytes.
-use Rattle.std.proofs.Common.{◌∙◌, ◌≡◌, ◌≤◌, ap, arith, length, length-take-le, sym}
+use Rattle.std.proofs.Common.{◌∙◌, ◌≤◌, ap, arith, length, length-take-le, sym}
 use Rattle.join.proofs.Called.{answered_short}
 use Rattle.join.specs.Code.{as_joined}
 use Rattle.join_files.proofs.print_joined.Goals as goal
