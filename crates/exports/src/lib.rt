@@ -113,11 +113,17 @@ fn page_into(
 {
     match page(engine, file, scratch, out, start) {
         Ok(page) => {
-            put(words, page_answer(page.count, usize::from(page.done), page.last));
+            put(
+                words,
+                page_answer(page.count, usize::from(page.done), page.last),
+            );
             ACCEPTED
         }
         Err(r) => {
-            put(words, page_answer(usize::from(u8::from(r.fault)), r.record, [0; 32]));
+            put(
+                words,
+                page_answer(usize::from(u8::from(r.fault)), r.record, [0; 32]),
+            );
             REFUSED
         }
     }
