@@ -76,7 +76,7 @@ pub fn is_indexed(index: &[usize], head: usize, end: usize) -> bool
     }
 }
 
-// The members of the head at a record, with their index if they have one.
+// The members of the head at a record, with their index if they have one. Head and end are bounded here and below as the call's own indices.
 pub fn indexed_at<'a>(
     file: &'a [u8],
     head: usize,
@@ -95,6 +95,7 @@ pub fn indexed_at<'a>(
     })
 }
 
+// The two questions below differ in all but the choice by the index; one function for both would be handed each as a closure.
 // The value is one of the items of the oneof at record head.
 fn has_item(file: &[u8], head: usize, end: usize, index: &[usize], v: Value) -> bool
     requires { (head < end) × (end ≤ length file.now / 32) × (end ≤ 65536) × IndexIn file.now index.now }

@@ -16,6 +16,7 @@ use spec::records::{a_at, b_at, kind_at, p_at, q_at};
 // A projection is below this.
 const TOP: u64 = 1 << 63;
 
+// The sum of a row, which is a lent slice as document 01 has it; so what it keeps to is asked of each call.
 fn sum(row: &[i64]) -> i64
     requires { RowIn row.now }
     ensures { result ≡ sum_z row.now }
@@ -56,18 +57,15 @@ fn add_raised(word: u64, v: u64, k: usize) -> Option<u64>
     }
 }
 
-// The digit that an axis takes of the quotient.
-fn digit(radix: u64, rest: u64) -> u64
-    ensures { result ≡ digit_of radix rest }
+// The digit that an axis takes of what is left, and what it leaves to the next; an axis without radix takes all and divides nothing off.
+fn divide(radix: u64, rest: u64) -> (u64, u64)
+    ensures digit { result.0 ≡ digit_of radix rest }
+    ensures left { result.1 ≡ rest_of radix rest }
 {
-    rest.checked_rem(radix).unwrap_or(rest)
-}
-
-// What it leaves to the next; an axis without radix divides nothing off.
-fn quotient(radix: u64, rest: u64) -> u64
-    ensures { result ≡ rest_of radix rest }
-{
-    rest.checked_div(radix).unwrap_or(rest)
+    if radix == 0 {
+        return (rest, rest);
+    }
+    (rest % radix, rest / radix)
 }
 
 // The digits of v by the axes, each times 2^shift, added to the word so far.
@@ -82,8 +80,9 @@ fn spread(axes: &[u8], v: u64, start: u64) -> Option<i64>
         if radix == 0 && power(a_at(axes, i)) <= rest {
             return None;
         }
-        word = add_raised(word, digit(radix, rest), b_at(axes, i))?;
-        rest = quotient(radix, rest);
+        let (digit, left) = divide(radix, rest);
+        word = add_raised(word, digit, b_at(axes, i))?;
+        rest = left;
     }
     Some(word as i64)
 }

@@ -33,7 +33,7 @@ impl Context {
         }
     }
 
-    // 5: the head would be the 33rd field or the 257th constraint.
+    // 5: the head would be the 33rd field or the 257th constraint. A type for the kinds that are no member's would repeat the table of kinds.
     pub(crate) fn is_full_for(self, head: Kind) -> bool
         requires { is_member (as_kind head) ≡ false }
         ensures { result ≡ overfull (as_kind head) (as_context self) }

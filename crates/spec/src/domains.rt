@@ -18,6 +18,7 @@ pub struct Rise {
     pub len: usize,
 }
 
+// Here and below, numbers that the scan found on the scale. They have no type of their own: the field check, over the same record, asks for less.
 // The least multiple of the step at or above p.
 fn first_multiple(step: i64, p: i64) -> i64
     requires { (on_scale p ≡ true) × (on_scale step ≡ true) × (le_z (pos 1) step ≡ true) }

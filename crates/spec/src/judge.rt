@@ -10,18 +10,6 @@ use crate::context::Context;
 use crate::kinds::{Kind, Row, Section, Use, row_of};
 use crate::records::Record;
 
-pub(crate) fn is_zero(x: i64) -> bool
-    ensures { result ≡ eq_z x (pos 0) }
-{
-    x == 0
-}
-
-fn is_negative(x: i64) -> bool
-    ensures { result ≡ lt_z x (pos 0) }
-{
-    x < 0
-}
-
 // Within ±2^56.
 pub(crate) fn on_scale(x: i64) -> bool
     ensures { result ≡ on_scale x }
@@ -67,9 +55,9 @@ impl Candidate {
         (given.padding != 0)
             | ((row.a == Use::Unused) & (given.a != 0))
             | ((row.b == Use::Unused) & (given.b != 0))
-            | ((row.p == Use::Unused) & !is_zero(given.p))
-            | ((row.q == Use::Unused) & !is_zero(given.q))
-            | ((row.r == Use::Unused) & !is_zero(given.r))
+            | ((row.p == Use::Unused) & (given.p != 0))
+            | ((row.q == Use::Unused) & (given.q != 0))
+            | ((row.r == Use::Unused) & (given.r != 0))
     }
 
     // 4: a is not the number due.
@@ -104,7 +92,7 @@ impl Candidate {
         !on_scale(given.p)
             | !on_scale(given.q)
             | !on_scale(given.r)
-            | ((self.row.p == Use::Natural) & is_negative(given.p))
-            | ((self.row.r == Use::Natural) & is_negative(given.r))
+            | ((self.row.p == Use::Natural) & (given.p < 0))
+            | ((self.row.r == Use::Natural) & (given.r < 0))
     }
 }

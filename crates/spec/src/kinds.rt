@@ -34,6 +34,7 @@ pub enum Kind {
     Unknown(u8),
 }
 
+// A match over all numbers, which is the form that document 01 asks for.
 impl From<u8> for Kind {
     ghost from_gives = { λ code kind. (as_kind kind ≡ kind_of code) × (kind_number kind ≡ code) };
 
@@ -147,12 +148,6 @@ impl Kind {
             Kind::Unknown(_) => Section::Neither,
         }
     }
-}
-
-pub fn is_member(code: u8) -> bool
-    ensures { result ≡ is_member (kind_of code) }
-{
-    Kind::from(code).is_member()
 }
 
 // What a record does with one of its numbers.

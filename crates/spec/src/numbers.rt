@@ -11,8 +11,8 @@ pub struct Index(pub usize);
 #[derive(Clone, Copy, PartialEq, Eq, PartialOrd, Ord)]
 pub struct Value(pub i64);
 
-// The powers of two that widths and shifts take.
-static POWERS: [u64; 64] = [
+// The powers of two that widths and shifts take: a table, which is the form that document 01 asks for.
+const POWERS: [u64; 64] = [
     1,
     2,
     4,
@@ -79,7 +79,7 @@ static POWERS: [u64; 64] = [
     9223372036854775808,
 ];
 
-// 2^k.
+// 2^k. That k is below 64 is the bound of the call's own index, here and where the table is asked.
 pub fn power(k: usize) -> u64
     requires { k < 64 }
     ensures { result ≡ 2 ^ k }
@@ -87,26 +87,12 @@ pub fn power(k: usize) -> u64
     POWERS[k]
 }
 
-pub fn small(x: u8) -> usize
-    ensures { (result ≡ x) × (result < 256) }
-{
-    usize::from(x)
-}
-
-// The eight bytes from `at` on.
-fn eight(s: &[u8], at: usize) -> [u8; 8]
-    requires { at + 8 ≤ length s.now }
-    ensures { result ≡ take 8 (drop at s.now) }
-{
-    *s[at..].first_chunk().unwrap()
-}
-
 // The little-endian number at byte `at`.
 pub(crate) fn natural_at(s: &[u8], at: usize) -> u64
     requires { at + 8 ≤ length s.now }
     ensures { result ≡ little_endian (take 8 (drop at s.now)) }
 {
-    u64::from_le_bytes(eight(s, at))
+    u64::from_le_bytes(*s[at..].first_chunk().unwrap())
 }
 
 // The signed one.
@@ -114,5 +100,5 @@ pub(crate) fn number_at(s: &[u8], at: usize) -> i64
     requires { at + 8 ≤ length s.now }
     ensures { result ≡ word_at s.now at }
 {
-    i64::from_le_bytes(eight(s, at))
+    natural_at(s, at).cast_signed()
 }

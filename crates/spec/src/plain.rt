@@ -3,7 +3,7 @@ ghost use Rattle.std.specs.Prelude.{◌≡◌, true, ℕ, ◌/◌, ◌≤◌, �
 ghost use Rattle.spec.specs.Record.{record_at};
 ghost use Rattle.spec.specs.Code.{InBytes, is_plain};
 
-use crate::judge::{is_zero, on_scale};
+use crate::judge::on_scale;
 use crate::records::{lead_at, p_at, q_at, r_at};
 
 // The first eight bytes of a pair and of an item, as one number; and of a value of field a, but for a.
@@ -21,8 +21,8 @@ fn is_plain(file: &[u8], i: usize, lead: u64) -> bool
 {
     let q = q_at(file, i);
     (lead_at(file, i) == lead)
-        & ((lead == PAIR) | is_zero(q))
-        & is_zero(r_at(file, i))
+        & ((lead == PAIR) | (q == 0))
+        & (r_at(file, i) == 0)
         & on_scale(p_at(file, i))
         & on_scale(q)
 }

@@ -6,7 +6,7 @@ ghost use Rattle.spec.specs.Record.{record_at};
 ghost use Rattle.spec.specs.Code.{as_kind, as_record, kind_number, lead_of, InBytes};
 
 use crate::kinds::Kind;
-use crate::numbers::{natural_at, number_at, small};
+use crate::numbers::{natural_at, number_at};
 
 // A record: its kind, a, b, the five bytes that no kind uses as one number, p, q, r.
 #[derive(Clone, Copy)]
@@ -20,36 +20,30 @@ pub struct Record {
     pub r: i64,
 }
 
-// The parts of record i, counting from 0.
-pub fn code_at(file: &[u8], i: usize) -> u8
-    requires { i < length file.now / 32 }
-    ensures { result ≡ (record_at file.now i).code }
-{
-    file[i * 32]
-}
-
+// The parts of record i, counting from 0. Each asks for a record that there is: the bound of the call's own index.
 pub fn kind_at(file: &[u8], i: usize) -> Kind
     requires { i < length file.now / 32 }
     ensures kind { as_kind result ≡ (record_at file.now i).kind }
     ensures number { kind_number result ≡ (record_at file.now i).code }
 {
-    Kind::from(code_at(file, i))
+    Kind::from(file[i * 32])
 }
 
 pub fn a_at(file: &[u8], i: usize) -> usize
     requires { i < length file.now / 32 }
     ensures { (result ≡ (record_at file.now i).a) × (result < 256) }
 {
-    small(file[i * 32 + 1])
+    usize::from(file[i * 32 + 1])
 }
 
 pub fn b_at(file: &[u8], i: usize) -> usize
     requires { i < length file.now / 32 }
     ensures { (result ≡ (record_at file.now i).b) × (result < 256) }
 {
-    small(file[i * 32 + 2])
+    usize::from(file[i * 32 + 2])
 }
 
+// p, q and r by their names: one function for a place of eight bytes is `number_at`, and `number_at(file, i * 32 + 8)` reads worse than `p_at(file, i)`.
 pub fn p_at(file: &[u8], i: usize) -> i64
     requires { i < length file.now / 32 }
     ensures { result ≡ (record_at file.now i).p }

@@ -13,7 +13,7 @@ use crate::plain::{ITEM, PAIR, VALUE, plain_end};
 use crate::records::{Record, record_at};
 use crate::refusal::{Fault, Refusal, refuse_at};
 
-// The context after the last head, and that head's record, counted from 0.
+// The context after the last head, and that head's record, counted from 0. It stands before record i of the calls below, which is the bound of their own index.
 #[derive(Clone, Copy)]
 pub struct State {
     pub context: Context,

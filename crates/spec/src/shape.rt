@@ -47,6 +47,7 @@ pub(crate) fn fields_of(file: &[u8]) -> Fields
     let mut count = 0;
     let mut product = 1;
     let mut i = 0;
+    // No `for`: from head to head, as far as the walker sees fields.
     while (Walker { file, next: i }).section() == Section::Fields {
         let values = members(file, i).len() / 32;
         product = times(product, domain_len(record_at(file, i), values));
@@ -60,7 +61,7 @@ pub(crate) fn fields_of(file: &[u8]) -> Fields
     }
 }
 
-// Goes from constraint to constraint, from the first on.
+// Goes from constraint to constraint, from the first on. One function for both would be handed the section and what is multiplied, and be no plainer.
 pub(crate) fn constraints_of(file: &[u8], from: usize) -> Constraints
     requires { (length file.now ≤ 65536) × (records_fault (records_of file.now) ≡ none) × (from ≡ stands_at 1 (records_of file.now)) }
     ensures count { result.count ≡ length (decoded file.now).constraints }
@@ -68,6 +69,7 @@ pub(crate) fn constraints_of(file: &[u8], from: usize) -> Constraints
 {
     let mut count = 0;
     let mut i = from;
+    // No `for`, as above.
     while (Walker { file, next: i }).section() == Section::Constraints {
         count += 1;
         i = members_end(file, i);

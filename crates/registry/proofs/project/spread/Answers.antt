@@ -68,7 +68,7 @@ module _ (c : After-add_raised) where
   next = c.loop-i.word + digit_of (nat_abs (m here).p) c.loop-i.rest * 2 ^ (m here).b
 
   added : c.add_raised.result ≡ word_of next
-  added = c.add_raised.ensures ∙ ap₂ (λ (d k : ℕ). word_of (c.loop-i.word + d * 2 ^ k)) (c.digit.ensures ∙ ap (λ (r : ℕ). digit_of r c.loop-i.rest) (radix-read here)) c.b_at.ensures.0
+  added = c.add_raised.ensures ∙ ap₂ (λ (d k : ℕ). word_of (c.loop-i.word + d * 2 ^ k)) (c.divide-digit.ensures.digit ∙ ap (λ (r : ℕ). digit_of r c.loop-i.rest) (radix-read here)) c.b_at.ensures.0
 
   turned : packed_from c.args.axes.now next (rest_of (nat_abs (m here).p) c.loop-i.rest) (c.loop-i.i + 1) ≡ packed_from c.args.axes.now c.loop-i.word c.loop-i.rest c.loop-i.i
   turned = sym (from_turn c.args.axes.now c.loop-i.word c.loop-i.rest c.loop-i.i c.loop-i-test.true (room (goal.at.After-add_raised c).Joined-else-radix-eq0))
@@ -87,7 +87,7 @@ loop-i-preserved c =
     let a = (goal.at.loop-i-preserved c).After-add_raised in
     let l = c.loop-i in
     let fits = fits_yes (next a) c.in_ok-word.word (sym (added a) ∙ c.in_ok-word.was) in
-    let left = c.quotient-rest.ensures ∙ ap (λ (r : ℕ). rest_of r l.rest) (radix-read (here a)) in
+    let left = c.divide-digit.ensures.left ∙ ap (λ (r : ℕ). rest_of r l.rest) (radix-read (here a)) in
     (rw fits.1 fits.0, ap₂ (λ (w v : ℕ). packed_from c.args.axes.now w v (l.i + 1)) fits.1 left ∙ turned a ∙ l.invariant.1)
 
 pub returns : goal.returns

@@ -1,4 +1,6 @@
 use Rattle.std.proofs.Common.{rules, ◌≡◌, to_z-of_z, w64, SFits, sym}
+use lib.IntN.{pos}
+use Rattle.lists.proofs.Words.{eq_bits, zero_fits}
 use Rattle.spec.specs.Code.{as_use}
 use Rattle.spec.specs.Kind.{is_unused}
 use Rattle.spec.proofs.judge.Candidate.has_stray_byte.Goals as goal
@@ -15,7 +17,4 @@ returns c =
     let p : SFits w64 h.p = search rules in
     let q : SFits w64 h.q = search rules in
     let r : SFits w64 h.r = search rules in
-    let z₁ = simp to_z-of_z at c.is_zero.ensures in
-    let z₂ = simp to_z-of_z at c.is_zero-2.ensures in
-    let z₃ = simp to_z-of_z at c.is_zero-3.ensures in
-    rw (sym c.args.self.looked_up, e₁, e₂, e₃, e₄, e₅, z₁, z₂, z₃)
+    rw (sym c.args.self.looked_up, e₁, e₂, e₃, e₄, e₅, eq_bits h.p (pos 0) p zero_fits, eq_bits h.q (pos 0) q zero_fits, eq_bits h.r (pos 0) r zero_fits)

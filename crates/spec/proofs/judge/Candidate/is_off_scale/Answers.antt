@@ -16,6 +16,4 @@ returns c =
     let s₁ = simp to_z-of_z at c.on_scale.ensures in
     let s₂ = simp to_z-of_z at c.on_scale-2.ensures in
     let s₃ = simp to_z-of_z at c.on_scale-3.ensures in
-    let n₁ = simp (to_z-of_z, negative_lt) at c.is_negative.ensures in
-    let n₂ = simp (to_z-of_z, negative_lt) at c.is_negative-2.ensures in
-    rw (sym c.args.self.looked_up, e₁, e₂, s₁, s₂, s₃, n₁, n₂)
+    rw (sym c.args.self.looked_up, e₁, e₂, s₁, s₂, s₃, to_z-of_z {w = w64} p, to_z-of_z {w = w64} r, negative_lt h.p, negative_lt h.r)
