@@ -92,7 +92,8 @@ pub(crate) fn natural_at(s: &[u8], at: usize) -> u64
     requires { at + 8 ≤ length s.now }
     ensures { result ≡ little_endian (take 8 (drop at s.now)) }
 {
-    u64::from_le_bytes(*s[at..].first_chunk().unwrap())
+    // Cut to eight bytes first: of a longer part the compiled code would test the length again for each number.
+    u64::from_le_bytes(*s[at..at + 8].first_chunk().unwrap())
 }
 
 // The signed one.
