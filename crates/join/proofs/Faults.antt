@@ -16,7 +16,7 @@ use Rattle.std.specs.Prelude.{Err, Ok, Result}
 use Rattle.spec.specs.Domain.{too_many, total}
 use Rattle.spec.specs.Kind.{kind_of, projector, row_of, sum}
 use Rattle.spec.specs.Record.{decoded, groups, parts_of, record_at, record_of, records_of, spec_of}
-use Rattle.spec.specs.Refusal.{Answer, Refused, ◌▷◌, accepted, answer, file_fault, refuse, refuse_if, refused}
+use Rattle.spec.specs.Refusal.{Refused, ◌▷◌, accepted, answer, file_fault, refuse, refuse_if, refused}
 use Rattle.spec.specs.Shape as shapes
 use Rattle.spec.specs.Shape.{shape_of}
 use Rattle.spec.specs.Spec.{FieldSpec, Spec}

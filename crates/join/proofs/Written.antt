@@ -1,16 +1,14 @@
 -- What the code writes: bytes from the front on, one renumbered record, a range of them; and the numbers of the refusals of a joined file.
-use mathlib.Core.Bool.{Bool}
 use mathlib.Core.List.{List, [], ◌++◌, ◌∷◌, append_assoc, append-nil, map}
 use mathlib.Core.Path.{◌∙◌, ◌≡◌, ap, ap₂, refl, sym}
 use Prim.Native.Nat.{◌*◌, ◌+◌, ◌-◌, ◌/◌, ◌<◌, ◌≤◌, suc, zero, ℕ}
-use native.Mathlib.Nat.{add-zero, mul-le-mul}
+use native.Mathlib.Nat.{mul-le-mul}
 use native.Mathlib.Omega.{arith}
-use lib.Dec.{leb}
 use borrow.Rule.Slice.PartMut.{mid_len, mid_of, put_mid, same_len_mid}
 use lib.ListN.{drop, get_or, length, length-append, length-drop, length-map, replicate, set, take}
-use lib.Seq.{drop-drop, get_or-drop, get_or-take, length_front, length-take-le, take_all, take_at, take-suc}
+use lib.Seq.{drop-drop, get_or-drop, length_front, length-take-le, take_all, take_at, take-suc}
 use Rattle.lists.proofs.Lists.{concat_map_append, map_append}
-use Rattle.lists.proofs.Tests.{leb_no, leb_yes, ltb_no, ltb_yes}
+use Rattle.lists.proofs.Tests.{ltb_no, ltb_yes}
 use Rattle.spec.specs.Code.{as_row}
 use Rattle.spec.specs.Kind as kinds
 use Rattle.spec.specs.Kind.{kind_of, row_of}

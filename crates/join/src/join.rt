@@ -109,15 +109,15 @@ fn write_joined(first: &[u8], second: &[u8], s: Shape, t: Shape, out: &mut [u8])
     ensures { out.new ≡ join_bytes first.now second.now }
 {
     let by = s.fields as u8;
-    let a = s.constraints_at * 32;
-    let b = a + t.constraints_at * 32;
-    let c = b + (s.projector_at - s.constraints_at) * 32;
-    let d = c + (t.projector_at - t.constraints_at) * 32;
-    put_records(first, 0, s.constraints_at, 0, &mut out[..a]);
-    put_records(second, 0, t.constraints_at, by, &mut out[a..b]);
-    put_records(first, s.constraints_at, s.projector_at, 0, &mut out[b..c]);
-    put_records(second, t.constraints_at, t.projector_at, by, &mut out[c..d]);
-    put_sum(&mut out[d..]);
+    let (fields, rest) = out.split_at_mut(s.constraints_at * 32);
+    let (more_fields, rest) = rest.split_at_mut(t.constraints_at * 32);
+    let (rules, rest) = rest.split_at_mut((s.projector_at - s.constraints_at) * 32);
+    let (more_rules, sum) = rest.split_at_mut((t.projector_at - t.constraints_at) * 32);
+    put_records(first, 0, s.constraints_at, 0, fields);
+    put_records(second, 0, t.constraints_at, by, more_fields);
+    put_records(first, s.constraints_at, s.projector_at, 0, rules);
+    put_records(second, t.constraints_at, t.projector_at, by, more_rules);
+    put_sum(sum);
 }
 
 // The total of the joined file: a file without fields leaves the other's.

@@ -11,7 +11,10 @@ use Rattle.lists.proofs.All.{All, All_append, []ᴬ, ◌∷ᴬ◌}
 use Rattle.lists.proofs.Tests.{no_ge, yes_lt}
 use Rattle.std.specs.Fmt as std-text
 use Rattle.std.proofs.lemmas.Fmt.{decimal_digit, decimal_step}
-use Rattle.listing.specs.Text.{decimal, digits_of}
+use lib.IntN.{negsuc, pos, ℤ}
+use mir.Syntax.{w64}
+use mir.Val.{SFits}
+use Rattle.listing.specs.Text.{decimal, digits_of, signed_decimal}
 
 -- the number that digits stand for, most significant first
 abbrev pub read_decimal : List ℕ → ℕ
@@ -58,6 +61,11 @@ std_digits (suc fuel) n false e h small =
 pub std_decimal : (n : ℕ) → n < 2 ^ 64 → std-text.decimal n ≡ decimal n
 unfolding decimal
 std_decimal n small = std_digits (suc n) n (ltb n 10) refl (omega arith) small
+
+-- The same with a sign.
+pub std_signed : (v : ℤ) → SFits w64 v → std-text.signed_decimal v ≡ signed_decimal v
+std_signed (pos n) f = std_decimal n (omega (arith, f.sfits))
+std_signed (negsuc n) f = ap (λ (l : List ℕ). 45 ∷ l) (std_decimal (suc n) (omega (arith, f.sfits)))
 
 -- A number below 10^k has at most k digits.
 digits_short : (fuel n k : ℕ) (last : Bool) → ltb n 10 ≡ last → n < 10 ^ suc k → length (digits_of fuel last n) ≤ suc k

@@ -7,11 +7,11 @@ ghost use Rattle.lists.specs.Lists.{concat_map};
 ghost use Rattle.lists.specs.Integers.{eq_z};
 ghost use Rattle.classifier.specs.Code.{as_counts};
 ghost use Rattle.listing.specs.Counts.{IsPrefixLen};
-ghost use Rattle.listing.specs.Text.{decimal, signed_decimal, spaced, projection_text, refused_line, end_line, accepted_line, answer_line};
+ghost use Rattle.listing.specs.Text.{signed_decimal, spaced, projection_text, refused_line, end_line, accepted_line, answer_line};
 ghost use Rattle.listing.specs.Words.{after_if, bytes_for, can_list, has_room, line_of, lines_of, put_if};
 
 use classifier::count::Counts;
-use itoa::Buffer;
+use itoa::{Buffer, Integer};
 use spec::refusal::Refusal;
 use spec::validate::Shape;
 
@@ -34,26 +34,16 @@ fn put_word(out: &mut [u8], at: usize, word: &[u8]) -> usize
     end
 }
 
-// A number has at most 20 digits.
-fn put_number(out: &mut [u8], at: usize, number: u64) -> usize
-    requires { at + length (decimal number) ≤ length out.old }
-    ensures out_after { out.new ≡ sets out.old at (decimal number) }
-    ensures value { result ≡ at + length (decimal number) }
-    ensures upper_bound { result ≤ at + 20 }
-{
-    let mut digits = Buffer::new();
-    put_word(out, at, digits.format(number).as_bytes())
-}
-
-// A space, then the number.
-fn put_spaced(out: &mut [u8], at: usize, number: u64) -> usize
-    requires { at + 21 ≤ length out.old }
-    ensures out_after { out.new ≡ sets out.old at (spaced (decimal number)) }
-    ensures value { result ≡ at + length (spaced (decimal number)) }
+// A space, then the number, of 64 bits at most: with its sign it has at most 20 bytes.
+fn put_spaced<I: Integer>(out: &mut [u8], at: usize, number: I) -> usize
+    requires { (I.MAX_STR_LEN ≤ 20) × (at + 21 ≤ length out.old) }
+    ensures out_after { out.new ≡ sets out.old at (spaced (I.text number)) }
+    ensures value { result ≡ at + length (spaced (I.text number)) }
     ensures upper_bound { result ≤ at + 21 }
 {
     let next = put_byte(out, at, b' ');
-    put_number(out, next, number)
+    let mut digits = Buffer::new();
+    put_word(out, next, digits.format(number).as_bytes())
 }
 
 // The line of a refusal: at most 50 bytes.
@@ -81,31 +71,6 @@ fn put_accepted(out: &mut [u8], at: usize, total: u64) -> usize
     put_byte(out, end, b'\n')
 }
 
-// A number with a sign has at most 20 bytes.
-fn put_signed(out: &mut [u8], at: usize, number: i64) -> usize
-    requires { at + 20 ≤ length out.old }
-    ensures out_after { out.new ≡ sets out.old at (signed_decimal number) }
-    ensures value { result ≡ at + length (signed_decimal number) }
-    ensures upper_bound { result ≤ at + 20 }
-{
-    if number < 0 {
-        let next = put_byte(out, at, b'-');
-        return put_number(out, next, (-1 - number) as u64 + 1);
-    }
-    put_number(out, at, number as u64)
-}
-
-// A space, then the number.
-fn put_value(out: &mut [u8], at: usize, number: i64) -> usize
-    requires { at + 21 ≤ length out.old }
-    ensures out_after { out.new ≡ sets out.old at (spaced (signed_decimal number)) }
-    ensures value { result ≡ at + length (spaced (signed_decimal number)) }
-    ensures upper_bound { result ≤ at + 21 }
-{
-    let next = put_byte(out, at, b' ');
-    put_signed(out, next, number)
-}
-
 // A space and the number, for each.
 fn put_values(out: &mut [u8], at: usize, numbers: &[i64]) -> usize
     requires { at + bytes_for (length numbers.now) ≤ length out.old }
@@ -115,7 +80,7 @@ fn put_values(out: &mut [u8], at: usize, numbers: &[i64]) -> usize
 {
     let mut next = at;
     for number in numbers {
-        next = put_value(out, next, *number);
+        next = put_spaced(out, next, *number);
     }
     next
 }
@@ -128,7 +93,7 @@ fn put_projection(out: &mut [u8], at: usize, projection: Option<i64>) -> usize
     ensures upper_bound { result ≤ at + 21 }
 {
     match projection {
-        Some(number) => put_value(out, at, number),
+        Some(number) => put_spaced(out, at, number),
         None => put_word(out, at, b" -"),
     }
 }
@@ -142,7 +107,7 @@ fn put_line(out: &mut [u8], at: usize, words: &[i64]) -> usize
 {
     let letter = if words[0] == 1 { b'P' } else { b'F' };
     let places = put_byte(out, at, letter);
-    let projections = put_value(out, places, words[1]);
+    let projections = put_spaced(out, places, words[1]);
     let projection = if words[2] == 1 { Some(words[3]) } else { None };
     let values = put_projection(out, projections, projection);
     let end = put_values(out, values, &words[4..]);

@@ -22,6 +22,7 @@ fn read_full<R: Read>(input: &mut R, file: &mut [u8]) -> io::Result<usize>
     ensures end { IfOk result (λ n. n < length file.new → IsAtEnd (R.remaining input.new)) }
 {
     let mut n = 0;
+    // No `for`: a read gives as many bytes as it likes.
     while n < file.len() {
         let more = input.read(&mut file[n..])?;
         if more == 0 {

@@ -1,7 +1,7 @@
 -- `join::join::join_accepted` meets its contract: 16 on the first and the second, then the numbers of the joined file, then its bytes.
-use mathlib.Core.Bool.{false, true}
+use mathlib.Core.Bool.{false}
 use mathlib.Core.List.{List, ◌++◌}
-use mathlib.Core.Option.{Option, none, some}
+use mathlib.Core.Option.{none, some}
 use mathlib.Core.Path.{◌∙◌, ◌≡◌, ap, ap₂, sym}
 use Prim.Native.Nat.{◌*◌, ◌+◌, ◌≤◌, ℕ}
 use native.Mathlib.Numerals.{add-one}
@@ -12,7 +12,7 @@ use Rattle.std.proofs.lemmas.Result.{err_from_is_err_and}
 use Rattle.spec.specs.Record.{decoded}
 use Rattle.spec.specs.Refusal.{Refused, accepted, refuse, refused}
 use Rattle.join.specs.Code.{as_join_fault, as_join_refused, joined_number, refusal_of, total_by}
-use Rattle.join.specs.Join.{JoinRefused, first, is_sum, join_fault, joined, of, projector_at, second}
+use Rattle.join.specs.Join.{first, is_sum, join_fault, joined, of, projector_at, second}
 use Rattle.join.proofs.Faults.{answer_joined, answer-refused, both_shaped, fault_number, fault_sum_first, fault_sum_second, join-length, number-zero, output_joined, output_refused, sum_no, sum_yes, unrefused}
 use Rattle.join.proofs.join.join_accepted.Goals.{In-Sum-kind_at}
 use Rattle.join.proofs.join.join_accepted.Goals as goal

@@ -4,6 +4,7 @@ use native.Mathlib.Omega.{arith}
 use lib.ListN.{length-append}
 use Rattle.listing.specs.Text.{decimal, spaced, newline, accepted_word, accepted_line}
 use Rattle.listing.proofs.Buffer.{put_after}
+use Rattle.listing.proofs.Decimal.{std_decimal}
 use Rattle.listing.proofs.text.put_accepted.Goals as goal
 
 pub returns : goal.returns
@@ -11,7 +12,8 @@ unfolding accepted_line
 returns c =
     let byte = c.put_byte in
     let spaces = c.put_spaced-end in
+    let spaces-is = rw (std_decimal c.args.total c.ranges.total.fits) at spaces.ensures in
     let word = c.put_word-totals in
     let args = c.args in
     let number = spaced (decimal args.total) in
-    let tail = put_after word.new.out spaces.new.out byte.new.out word.result spaces.result number newline spaces.ensures.out_after spaces.ensures.value byte.ensures.out_after in record { out_after = put_after args.out.now word.new.out byte.new.out args.at word.result accepted_word (number ++ newline) word.ensures.out_after word.ensures.value tail; value = omega (arith, word.ensures.value, spaces.ensures.value, byte.ensures.value, length-append (decimal args.total) newline); upper_bound = omega (arith, word.ensures.value, spaces.ensures.upper_bound, byte.ensures.value) }
+    let tail = put_after word.new.out spaces.new.out byte.new.out word.result spaces.result number newline spaces-is.out_after spaces-is.value byte.ensures.out_after in record { out_after = put_after args.out.now word.new.out byte.new.out args.at word.result accepted_word (number ++ newline) word.ensures.out_after word.ensures.value tail; value = omega (arith, word.ensures.value, spaces-is.value, byte.ensures.value, length-append (decimal args.total) newline); upper_bound = omega (arith, word.ensures.value, spaces-is.upper_bound, byte.ensures.value) }

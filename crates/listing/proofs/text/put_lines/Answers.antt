@@ -30,7 +30,7 @@ asked c = can_list_lem c.args.out.now c.args.words.now c.args.count c.args.width
 below : (c : In-loop-i) → c.loop-i.i * c.args.width + c.args.width ≤ length c.args.words.now
 below c =
     let args = c.args in
-    omega (arith, line_below args.count args.width c.loop-i.i c.loop-i-test.true, (asked c.before.before.before).1)
+    omega (arith, line_below args.count args.width c.loop-i.i c.loop-i-test.true, (can_list_lem args.out.now args.words.now args.count args.width c.requires).1)
 
 -- the words of this line
 module _ (c : In-loop-i) where

@@ -37,7 +37,7 @@ returns-then-out-count c =
 can : (c : Else-out-count) → let args = c.args in can_list args.out.now args.words.now args.count args.width ≡ true
 can c =
     let args = c.args in
-    listed args.out.now args.words.now args.count args.width (omega arith) (many (record { before = c.before.before; type_inv = record { out = c.slice_known-1.given } })) (omega (arith, c.if-out-count.false))
+    listed args.out.now args.words.now args.count args.width (omega arith) (lines_fit args.count args.width (length args.words.now) (omega arith) c.if-words-width.false) (omega (arith, c.if-out-count.false))
 
 pub put_lines-requires : goal.put_lines-requires
 put_lines-requires c = can (goal.at.put_lines-requires c).Else-out-count

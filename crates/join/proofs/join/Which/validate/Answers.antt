@@ -1,6 +1,6 @@
 -- `join::join::Which::validate` meets its contract.
 use mathlib.Core.Option.{some}
-use mathlib.Core.Path.{◌∙◌, ◌≡◌, ap, sym}
+use mathlib.Core.Path.{◌∙◌, ap, sym}
 use Rattle.join.specs.Code.{as_which}
 use Rattle.join.specs.Join.{JoinRefused, of}
 use Rattle.join.proofs.Faults.{told_accepted, told_refused}
