@@ -38,6 +38,7 @@ fn compact<F: Fn(Value) -> bool>(list: &mut [i64], passes: F) -> usize
     ensures left { (p : ℤ → Bool) → Answers (F.post passes) p → list.new ≡ over (filter p list.old) list.old }
 {
     let mut kept = 0;
+    // By index: the values in front are written while those behind are read, which no iterator over the list lets.
     for i in 0..list.len() {
         let x = list[i];
         if passes(Value(x)) {
@@ -48,6 +49,7 @@ fn compact<F: Fn(Value) -> bool>(list: &mut [i64], passes: F) -> usize
     kept
 }
 
+// Not one function with `compact`: that would take the next index as its parameter, and count here what is a search below.
 // Moves the values of a list that ascends that are among the items to the front, item by item; how many they are.
 fn compact_ascending(list: &mut [i64], items: IndexedRun) -> usize
     requires { is_ascending list.old ≡ true }
@@ -56,6 +58,7 @@ fn compact_ascending(list: &mut [i64], items: IndexedRun) -> usize
 {
     let mut kept = 0;
     let mut i = next_item(&list[..], items).0;
+    // `while`: the next index is searched for, so that no range has it.
     while i < list.len() {
         list[kept] = list[i];
         kept += 1;
@@ -117,6 +120,7 @@ fn narrow_all(rules: Rules, f: usize, list: &mut [i64]) -> usize
 {
     let mut len = list.len();
     let heads = rules.heads;
+    // By number: `windows(2)` gives slices, of which head and end would be read by index again.
     for k in 1..heads.len() {
         len = narrow_by(rules.file, heads[k - 1], heads[k], f, &mut list[..len]);
     }
@@ -143,6 +147,7 @@ pub(crate) fn lay_lists(rules: Rules, fields: &[usize], scratch: &mut [i64], lis
     ensures lists { lists.new ≡ list_places (map length (lists_by (constraints_in rules.entry.file.now rules.entry.heads.now) (fields_in rules.entry.file.now fields.now))) }
 {
     let mut at = 0;
+    // By number, which is the field's too: `windows(2)` gives slices, of which head and end would be read by index again.
     for k in 1..fields.len() {
         let len = lay_list(rules, fields[k - 1], fields[k], k - 1, &mut scratch[at..]);
         lists[k - 1] = Span { start: at, len };

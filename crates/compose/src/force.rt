@@ -62,20 +62,20 @@ pub fn force(file: &[u8], heads: &[usize], chosen: &[u8], row: &mut [i64]) -> bo
 fn is_mask(kind: Kind) -> bool
     ensures { result ≡ is_mask (as_kind kind) }
 {
-    kind == Kind::EnableMask
+    matches!(kind, Kind::EnableMask)
 }
 
 fn is_set(kind: Kind) -> bool
     ensures { result ≡ is_set (as_kind kind) }
 {
-    kind == Kind::EnableSet
+    matches!(kind, Kind::EnableSet)
 }
 
 // Of an enable record.
-fn is_enabling(kind: Kind) -> bool
+pub fn is_enabling(kind: Kind) -> bool
     ensures { result ≡ is_enabling (as_kind kind) }
 {
-    is_mask(kind) | is_set(kind)
+    matches!(kind, Kind::EnableMask | Kind::EnableSet)
 }
 
 // Behind the first `before` numbers, writes those of the heads of the kinds chosen; how many numbers there are then.
@@ -89,6 +89,7 @@ fn with_kinds<F: Fn(Kind) -> bool>(
     ensures { (test : KindTest) → TestIs (F.post is_chosen) test → Taken rules.entry.file.now rules.entry.heads.now test before numbers.old result numbers.new }
 {
     let mut count = before;
+    // By number, which is what is written.
     for k in 1..rules.heads.len() {
         if is_chosen(kind_at(rules.file, rules.heads[k - 1])) {
             numbers[count] = (k - 1) as u8;

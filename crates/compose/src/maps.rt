@@ -16,6 +16,7 @@ pub(crate) fn kept_maps(rules: Rules, maps: &mut [Option<KeptMap>])
     ensures inside { MapsIn rules.entry.file.now maps.new rules.entry.fields }
 {
     let file = rules.file;
+    // By number: `windows(2)` gives slices, of which head and end would be read by index again.
     for k in 1..rules.heads.len() {
         let head = rules.heads[k - 1];
         if kind_at(file, head) == Kind::Cross {
