@@ -13,6 +13,7 @@ use spec::domains::{allows_value, part};
 use spec::numbers::Value;
 use spec::records::record_at;
 
+// Its own file, heads and fields, not `Rules`: those say of every head that it lies in the file, here the heads chosen have to.
 // Constraints that rows are asked about: the heads of all of a file's, the numbers of those chosen among them, the index of the long lists of members, and how many values a row has.
 #[derive(Clone, Copy)]
 pub struct Checks<'a> {
