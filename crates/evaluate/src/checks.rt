@@ -49,8 +49,8 @@ impl<'a> Checks<'a> {
         ensures first { from_one result ≡ first_chosen (holds_at self.now.file.now self.now.heads.now row.now) self.now.chosen.now }
         ensures few { from_one result ≤ 256 }
     {
-        for j in 0..self.chosen.len() {
-            let k = usize::from(self.chosen[j]);
+        for number in self.chosen {
+            let k = usize::from(*number);
             if !check(self.file, self.heads[k], self.heads[k + 1], self.index, row) {
                 return Some(k);
             }

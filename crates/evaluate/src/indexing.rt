@@ -40,12 +40,7 @@ pub fn has_long(rules: Rules) -> bool
     ensures { result ≡ any (is_long_at rules.entry.file.now rules.entry.heads.now) (upto (length rules.entry.heads.now - 1)) }
 {
     let heads = rules.heads;
-    for k in 1..heads.len() {
-        if is_long(rules.file, heads[k - 1], heads[k], LONG) {
-            return true;
-        }
-    }
-    false
+    (1..heads.len()).any(|k| is_long(rules.file, heads[k - 1], heads[k], LONG))
 }
 
 // So many rows are worth an index.
