@@ -1,9 +1,9 @@
--- `compose::values::mark_all` meets its contract.
+-- `compose::finding::mark_all` meets its contract.
 use Rattle.std.proofs.Common.{◌∙◌, ◌≡◌, ap, add-one, arith, rules, List, ℕ, set, true, false, get_or, pos}
 use Rattle.lists.specs.Integers.{eq_z}
 use Rattle.compose.proofs.Tabled.{marked_no, marked_yes}
-use Rattle.compose.proofs.values.mark_all.Goals.{then-x-w, else-x-w}
-use Rattle.compose.proofs.values.mark_all.Goals as goal
+use Rattle.compose.proofs.finding.mark_all.Goals.{then-x-w, else-x-w}
+use Rattle.compose.proofs.finding.mark_all.Goals as goal
 
 pub loop-i-preserved : goal.loop-i-preserved
 loop-i-preserved c =
