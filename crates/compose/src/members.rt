@@ -7,9 +7,7 @@ ghost use Rattle.spec.specs.Spec.{Entry};
 ghost use Rattle.registry.specs.Check.{is_key, is_pair};
 ghost use Rattle.registry.specs.Index.{Bracket, placed, Spans};
 ghost use Rattle.compose.specs.Code.{between, pairs_at};
-ghost use Rattle.compose.specs.Known.{ascends, values_of};
 
-use crate::values::Values;
 use registry::check::has_pair;
 use registry::sorting::{IndexedRun, index_run};
 use spec::domains::has_p;
@@ -191,25 +189,4 @@ pub(crate) fn indexed<'a>(run: &'a [u8], room: &'a mut [usize; ROOM]) -> Indexed
     let (places, spare) = room.split_at_mut(n);
     index_run(run, places, &mut spare[..n]);
     IndexedRun { run, places }
-}
-
-// So many members are worth an index, where so many values are looked for among them.
-pub(crate) fn is_worth(members: usize, values: usize) -> bool
-    ensures { result ≡ true → members ≤ 2048 }
-{
-    (members <= INDEXED) & (32 < values) & ((16 < members) | (512 < values))
-}
-
-// So many members are worth slots of a list of so many values, among which they are looked for.
-pub(crate) fn is_worth_slots(members: usize, values: usize) -> bool
-    ensures { result ≡ (ltb 16 members && ltb 32 values) }
-{
-    (16 < members) & (32 < values)
-}
-
-// Going by the keys is quicker: they are no more than the values of the parent's list, and found in it by halving or few.
-pub(crate) fn goes_by_keys(parents: Values, keys: usize) -> bool
-    ensures { result ≡ (leb keys (length (values_of parents.entry)) && (ascends parents.entry || leb keys 24)) }
-{
-    (keys <= parents.list().len()) & (parents.ascends() | (keys <= 24))
 }
