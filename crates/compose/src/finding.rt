@@ -1,6 +1,5 @@
 // Looking through a list for a value, and for the next value that passes a test.
-ghost use Rattle.std.specs.Prelude.{◌≡◌, Bool, ℤ, true, false, map, ◌-◌, ◌≤◌, pos, length, get_or, FitsSigned, MatchOption};
-ghost use Rattle.std.specs.Int.{w64};
+ghost use Rattle.std.specs.Prelude.{◌≡◌, Bool, ℤ, true, false, map, ◌-◌, ◌≤◌, pos, length, get_or, MatchOption};
 ghost use Rattle.std.specs.Int.Signed.{le_z};
 ghost use Rattle.lists.specs.Integers.{elem_z};
 ghost use Rattle.lists.specs.Lists.{any};

@@ -1,5 +1,5 @@
 // The members of a kept map, read through or by their index: for a parent value the child values that are paired with it.
-ghost use Rattle.std.specs.Prelude.{◌≡◌, ◌+◌, ◌-◌, ◌/◌, ◌≤◌, ◌<◌, ℕ, ℤ, true, false, ◌&&◌, ◌||◌, leb, ltb, map, get_or, length, List, MatchOption};
+ghost use Rattle.std.specs.Prelude.{◌≡◌, ◌+◌, ◌-◌, ◌/◌, ◌≤◌, ◌<◌, ℕ, ℤ, true, false, ◌&&◌, map, length, List, MatchOption};
 ghost use Rattle.lists.specs.Integers.{eq_z};
 ghost use Rattle.lists.specs.Lists.{any};
 ghost use Rattle.spec.specs.Record.{entry_of, Record, record_at, records_of};
@@ -165,13 +165,9 @@ pub(crate) fn new_key(members: IndexedRun, k: usize) -> Option<Value>
 
 // How many keys the members have.
 pub(crate) fn keys_in(members: IndexedRun) -> usize {
-    let mut count = 0;
-    for k in 0..members.places.len() {
-        if new_key(members, k).is_some() {
-            count += 1;
-        }
-    }
-    count
+    (0..members.places.len())
+        .filter(|k| new_key(members, *k).is_some())
+        .count()
 }
 
 // So many members an index is laid for.
