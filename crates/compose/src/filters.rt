@@ -10,7 +10,7 @@ ghost use Rattle.registry.specs.Code.{group_in, mask_in};
 ghost use Rattle.compose.specs.Maps.{allowed, narrow_by};
 ghost use Rattle.compose.specs.Code.{Answers, constraints_in, fields_in, FieldIn, FieldsIn, is_ascending, list_places, lists_by, packed_lists, span_of};
 
-use crate::finding::{is_ascending, next_item};
+use crate::finding::{Ascending, is_ascending};
 use crate::groups::Rules;
 use crate::members::{INDEXED, ROOM, indexed};
 use crate::places::Span;
@@ -57,13 +57,18 @@ fn compact_ascending(list: &mut [i64], items: IndexedRun) -> usize
     ensures left { list.new ≡ over (filter (λ v. elem_z v (ps_of (records_of items.entry.run.now))) list.old) list.old }
 {
     let mut kept = 0;
-    let mut i = next_item(&list[..], items).0;
+    let mut i = Ascending { list: &list[..] }.next_item(items).0;
     // `while`: the next index is searched for, so that no range has it.
     while i < list.len() {
         list[kept] = list[i];
         kept += 1;
         let from = i + 1;
-        i = from + next_item(&list[from..], items).0;
+        i = from
+            + Ascending {
+                list: &list[from..],
+            }
+            .next_item(items)
+            .0;
     }
     kept
 }

@@ -1,30 +1,24 @@
 // Looking through a list for a value, and for the next value that passes a test.
-ghost use Rattle.std.specs.Prelude.{◌≡◌, Bool, ℤ, true, ◌-◌, ◌≤◌, pos, length, get_or, FitsSigned};
-ghost use Rattle.std.specs.Int.{w64};
+ghost use Rattle.std.specs.Prelude.{◌≡◌, Bool, ℤ, true, false, map, ◌-◌, ◌≤◌, pos, length, get_or, MatchOption};
 ghost use Rattle.std.specs.Int.Signed.{le_z};
 ghost use Rattle.lists.specs.Integers.{elem_z};
+ghost use Rattle.lists.specs.Lists.{any};
 ghost use Rattle.spec.specs.Code.{ps_of};
-ghost use Rattle.spec.specs.Record.{records_of};
+ghost use Rattle.spec.specs.Record.{entry_of, records_of};
+ghost use Rattle.registry.specs.Check.{is_pair};
 ghost use Rattle.compose.specs.Walk.{least};
-ghost use Rattle.compose.specs.Code.{is_ascending, Answers};
+ghost use Rattle.compose.specs.Code.{is_ascending, marked, Answers};
 
+use crate::members::is_pair_at;
 use registry::sorting::IndexedRun;
 use spec::numbers::{Index, Value};
-use spec::records::p_at;
+use spec::records::{p_at, q_at};
 
 // No value is below the one before it.
 pub(crate) fn is_ascending(list: &[i64]) -> bool
     ensures { result ≡ is_ascending list.now }
 {
     list.is_sorted()
-}
-
-// The first index from `from` on whose value is not below w; the list's length if there is none, since callers go on from there.
-pub(crate) fn reach(list: &[i64], w: Value, from: Index) -> Index
-    requires { (is_ascending list.now ≡ true) × (from.0 ≤ length list.now) }
-    ensures { result.0 ≡ least (λ k. le_z w.0 (get_or list.now k (pos 0))) from.0 (length list.now - from.0) }
-{
-    Index(from.0 + list[from.0..].partition_point(|v| *v < w.0))
 }
 
 // The first index from `from` on whose value passes the test; the list's length if there is none.
@@ -41,23 +35,111 @@ pub(crate) fn first_where<F: Fn(Value) -> bool>(list: &[i64], from: Index, passe
     Index(list.len())
 }
 
-// The first index whose value is the p of one of the records; the list's length if there is none.
-pub(crate) fn next_item(list: &[i64], items: IndexedRun) -> Index
-    requires { is_ascending list.now ≡ true }
-    ensures { result.0 ≡ least (λ k. elem_z (get_or list.now k (pos 0)) (ps_of (records_of items.entry.run.now))) 0 (length list.now) }
+// Marks the cells of a list's values that are w.
+pub(crate) fn mark_all(list: &[i64], w: Value, row: &mut [u8])
+    requires { length row.old ≡ length list.now }
+    ensures { row.new ≡ marked w.0 list.now row.old }
 {
-    let mut i = 0;
-    while i < list.len() {
-        let x = list[i];
-        let k = items.lower(Value(x), Value(i64::MIN));
-        if items.places.len() <= k {
-            return Index(list.len());
+    for (i, x) in list.iter().enumerate() {
+        if *x == w.0 {
+            row[i] = 1;
         }
-        let p = p_at(items.run, items.places[k]);
-        if p == x {
-            return Index(i);
-        }
-        i = reach(list, Value(p), Index(i + 1)).0;
     }
-    Index(i)
+}
+
+// A list none of whose values is below the one before it.
+#[derive(Clone, Copy)]
+pub(crate) struct Ascending<'a> {
+    pub list: &'a [i64],
+    ghost ascends: { is_ascending list.now ≡ true },
+}
+
+impl<'a> Ascending<'a> {
+    pub(crate) fn new(list: &'a [i64]) -> Option<Ascending<'a>>
+        ensures { MatchOption result (is_ascending list.now ≡ false) (λ a. a.list.now ≡ list.now) }
+    {
+        if is_ascending(list) {
+            Some(Ascending { list })
+        } else {
+            None
+        }
+    }
+
+    // The first index from `from` on whose value is not below w; the list's length if there is none, since callers go on from there.
+    pub(crate) fn reach(self, w: Value, from: Index) -> Index
+        requires { from.0 ≤ length self.list.now }
+        ensures { result.0 ≡ least (λ k. le_z w.0 (get_or self.entry.list.now k (pos 0))) from.0 (length self.entry.list.now - from.0) }
+    {
+        Index(from.0 + self.list[from.0..].partition_point(|v| *v < w.0))
+    }
+
+    // The value is in the list.
+    pub(crate) fn has(self, w: Value) -> bool
+        ensures { result ≡ elem_z w.0 self.entry.list.now }
+    {
+        let k = self.reach(w, Index(0)).0;
+        k < self.list.len() && self.list[k] == w.0
+    }
+
+    // Marks the cells of the values that are w, from the first of them on.
+    pub(crate) fn mark(self, w: Value, row: &mut [u8])
+        requires { length row.old ≡ length self.list.now }
+        ensures { row.new ≡ marked w.0 self.entry.list.now row.old }
+    {
+        for i in self.reach(w, Index(0)).0..self.list.len() {
+            if self.list[i] != w.0 {
+                return;
+            }
+            row[i] = 1;
+        }
+    }
+
+    // The first index whose value is the p of one of the records; the list's length if there is none.
+    pub(crate) fn next_item(self, items: IndexedRun) -> Index
+        ensures { result.0 ≡ least (λ k. elem_z (get_or self.entry.list.now k (pos 0)) (ps_of (records_of items.entry.run.now))) 0 (length self.entry.list.now) }
+    {
+        let mut i = 0;
+        while i < self.list.len() {
+            let x = self.list[i];
+            let k = items.lower(Value(x), Value(i64::MIN));
+            if items.places.len() <= k {
+                return Index(self.list.len());
+            }
+            let p = p_at(items.run, items.places[k]);
+            if p == x {
+                return Index(i);
+            }
+            i = self.reach(Value(p), Index(i + 1)).0;
+        }
+        Index(i)
+    }
+
+    // The first index from `from` on whose value is paired with v; the list's length if there is none.
+    pub(crate) fn next_pair(self, members: IndexedRun, v: Value, from: Index) -> Index
+        requires { from.0 ≤ length self.list.now }
+        ensures { result.0 ≡ least (λ k. any (is_pair v.0 (get_or self.entry.list.now k (pos 0))) (map entry_of (records_of members.entry.run.now))) from.0 (length self.entry.list.now - from.0) }
+    {
+        let mut i = from.0;
+        while i < self.list.len() {
+            let w = Value(self.list[i]);
+            let k = members.lower(v, w);
+            if members.places.len() <= k {
+                return Index(self.list.len());
+            }
+            let r = members.places[k];
+            if p_at(members.run, r) != v.0 {
+                return Index(self.list.len());
+            }
+            let q = q_at(members.run, r);
+            if q == w.0 {
+                if is_pair_at(members, k, v, w) {
+                    return Index(i);
+                }
+                i += 1;
+            } else {
+                i = self.reach(Value(q), Index(i + 1)).0;
+            }
+        }
+        Index(i)
+    }
 }

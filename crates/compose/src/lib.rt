@@ -15,4 +15,5 @@ pub mod plan;
 mod slots;
 pub mod steps;
 pub mod tables;
+mod tasks;
 mod values;

@@ -1,5 +1,5 @@
 // The members of a kept map, read through or by their index: for a parent value the child values that are paired with it.
-ghost use Rattle.std.specs.Prelude.{◌≡◌, ◌+◌, ◌-◌, ◌/◌, ◌≤◌, ◌<◌, ℕ, ℤ, true, false, ◌&&◌, ◌||◌, leb, ltb, map, get_or, length, List, MatchOption};
+ghost use Rattle.std.specs.Prelude.{◌≡◌, ◌+◌, ◌-◌, ◌/◌, ◌≤◌, ◌<◌, ℕ, ℤ, true, false, ◌&&◌, map, length, List, MatchOption};
 ghost use Rattle.lists.specs.Integers.{eq_z};
 ghost use Rattle.lists.specs.Lists.{any};
 ghost use Rattle.spec.specs.Record.{entry_of, Record, record_at, records_of};
@@ -14,13 +14,7 @@ use spec::domains::has_p;
 use spec::kinds::Kind;
 use spec::numbers::Value;
 use spec::records::{kind_at, p_at, q_at};
-
-// Numbers of places: from low to before high.
-#[derive(Clone, Copy)]
-pub(crate) struct Span {
-    pub low: usize,
-    pub high: usize,
-}
+use std::ops::Range;
 
 pub(crate) trait Members: Copy {
     ghost entries: { Self → List Entry };
@@ -30,9 +24,17 @@ pub(crate) trait Members: Copy {
 
     ghost member: { Self → ℕ → Record };
 
+    // What is known of the places from one to before another if they are where the pairs of a value stand.
+    ghost spans: { Self → ℤ → (start end : ℕ) → Type 0 };
+
     // Where the pairs of parent value v stand, if it is a key.
-    fn places_of(self, v: Value) -> Option<Span>
-        ensures { MatchOption result (any (is_key v.0) (entries self) ≡ false) (λ s. (any (is_key v.0) (entries self) ≡ true) × (s.low ≤ s.high) × (s.high ≤ many self) × ((w : ℤ) → any (is_pair v.0 w) (entries self) ≡ any (pairs_at v.0 w) (map (member self) (between s.low s.high)))) };
+    fn places_of(self, v: Value) -> Option<Range<usize>>
+        ensures { MatchOption result (any (is_key v.0) (entries self) ≡ false) (λ s. (any (is_key v.0) (entries self) ≡ true) × (s.start ≤ s.end) × (s.end ≤ many self) × ((w : ℤ) → any (is_pair v.0 w) (entries self) ≡ any (pairs_at v.0 w) (map (member self) (between s.start s.end))) × spans self v.0 s.start s.end) };
+
+    // v and w are a pair; the pairs of v stand at the places from start to before end.
+    fn has_pair(self, start: usize, end: usize, v: Value, w: Value) -> bool
+        requires { spans self v.0 start end }
+        ensures { result ≡ any (is_pair v.0 w.0) (entries self) };
 
     // The child value at place k, if a pair with v stands there.
     fn child_at(self, k: usize, v: Value) -> Option<Value>
@@ -68,15 +70,18 @@ impl<'a> Members for Run<'a> {
 
     ghost member = { λ m. record_at m.0.now };
 
-    fn places_of(self, v: Value) -> Option<Span> {
+    ghost spans = { λ m v start end. Unit {0} };
+
+    fn places_of(self, v: Value) -> Option<Range<usize>> {
         if has_p(self.0, v) {
-            Some(Span {
-                low: 0,
-                high: self.0.len() / 32,
-            })
+            Some(0..self.0.len() / 32)
         } else {
             None
         }
+    }
+
+    fn has_pair(self, _start: usize, _end: usize, v: Value, w: Value) -> bool {
+        has_pair(self.0, v, w)
     }
 
     fn child_at(self, k: usize, v: Value) -> Option<Value> {
@@ -91,13 +96,20 @@ impl<'a> Members for IndexedRun<'a> {
 
     ghost member = { λ m. placed m.run.now m.places.now };
 
-    fn places_of(self, v: Value) -> Option<Span> {
+    ghost spans = { λ m v start end. Spans m.run.now m.places.now v start end };
+
+    fn places_of(self, v: Value) -> Option<Range<usize>> {
         let span = span_of(self, v);
-        if span.low < span.high {
+        if span.start < span.end {
             Some(span)
         } else {
             None
         }
+    }
+
+    fn has_pair(self, start: usize, end: usize, v: Value, w: Value) -> bool {
+        let k = self.lower_between(v, w, start, end);
+        is_pair_at(self, k, v, w)
     }
 
     fn child_at(self, k: usize, v: Value) -> Option<Value> {
@@ -106,15 +118,15 @@ impl<'a> Members for IndexedRun<'a> {
 }
 
 // The places of the records whose p is v.
-pub(crate) fn span_of(members: IndexedRun, v: Value) -> Span
-    ensures { Spans members.entry.run.now members.entry.places.now v.0 result.low result.high }
+fn span_of(members: IndexedRun, v: Value) -> Range<usize>
+    ensures { Spans members.entry.run.now members.entry.places.now v.0 result.start result.end }
 {
     let low = members.lower(v, Value(i64::MIN));
     let high = match v.0.checked_add(1) {
         Some(next) => members.lower(Value(next), Value(i64::MIN)),
         None => members.places.len(),
     };
-    Span { low, high }
+    low..high
 }
 
 // v and w are a pair; place k is the first that is not below them.
@@ -153,13 +165,9 @@ pub(crate) fn new_key(members: IndexedRun, k: usize) -> Option<Value>
 
 // How many keys the members have.
 pub(crate) fn keys_in(members: IndexedRun) -> usize {
-    let mut count = 0;
-    for k in 0..members.places.len() {
-        if new_key(members, k).is_some() {
-            count += 1;
-        }
-    }
-    count
+    (0..members.places.len())
+        .filter(|k| new_key(members, *k).is_some())
+        .count()
 }
 
 // So many members an index is laid for.
@@ -177,25 +185,4 @@ pub(crate) fn indexed<'a>(run: &'a [u8], room: &'a mut [usize; ROOM]) -> Indexed
     let (places, spare) = room.split_at_mut(n);
     index_run(run, places, &mut spare[..n]);
     IndexedRun { run, places }
-}
-
-// So many members are worth an index, where so many values are looked for among them.
-pub(crate) fn is_worth(members: usize, values: usize) -> bool
-    ensures { result ≡ true → members ≤ 2048 }
-{
-    (members <= INDEXED) & (32 < values) & ((16 < members) | (512 < values))
-}
-
-// So many members are worth slots of a list of so many values, among which they are looked for.
-pub(crate) fn is_worth_slots(members: usize, values: usize) -> bool
-    ensures { result ≡ (ltb 16 members && ltb 32 values) }
-{
-    (16 < members) & (32 < values)
-}
-
-// Going by the keys is quicker: they are no more than the values of the parent's list, and found in it by halving or few.
-pub(crate) fn goes_by_keys(parents: usize, rises: bool, keys: usize) -> bool
-    ensures { result ≡ (leb keys parents && (rises || leb keys 24)) }
-{
-    (keys <= parents) & (rises | (keys <= 24))
 }

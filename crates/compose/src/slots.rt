@@ -1,8 +1,10 @@
 // Slots of a list: a number for each remainder of a division, which says where the values with that remainder stand.
-ghost use Rattle.std.specs.Prelude.{◌≡◌, ◌<◌, replicate};
-ghost use Rattle.compose.specs.Code.{remainder_of, slot_after, slot_in, Slotted, slot_number};
+ghost use Rattle.std.specs.Prelude.{◌≡◌, ◌<◌, length, replicate};
+ghost use Rattle.lists.specs.Integers.{elem_z};
+ghost use Rattle.compose.specs.Code.{marked, remainder_of, slot_after, slot_in, Slotted, slot_number};
 ghost use Rattle.compose.specs.declared.slots.Slot.TheVariants.{Several};
 
+use crate::finding::mark_all;
 use spec::numbers::Value;
 
 // A prime, so that the multiples of one number have all remainders.
@@ -47,17 +49,54 @@ pub(crate) fn lay_slots(list: &[i64], slots: &mut [u16; REMAINDERS])
     }
 }
 
-// What the slot of a value's remainder says.
-pub(crate) fn slot_of(slots: &[u16; REMAINDERS], w: Value) -> Slot
-    ensures number { slot_number result ≡ slot_in slots.now w.0 }
-    ensures full { slot_in slots.now w.0 ≡ 65535 → result ≡ Several }
-{
-    let next = usize::from(slots[remainder_of(w)]);
-    if next == 0 {
-        return Slot::Free;
+// A list with its slots.
+#[derive(Clone, Copy)]
+pub(crate) struct Slots<'a> {
+    pub list: &'a [i64],
+    pub numbers: &'a [u16; REMAINDERS],
+    ghost slotted: { Slotted numbers.now list.now },
+}
+
+impl<'a> Slots<'a> {
+    // What the slot of a value's remainder says.
+    fn slot_of(self, w: Value) -> Slot
+        ensures number { slot_number result ≡ slot_in self.entry.numbers.now w.0 }
+        ensures full { slot_in self.entry.numbers.now w.0 ≡ 65535 → result ≡ Several }
+    {
+        let next = usize::from(self.numbers[remainder_of(w)]);
+        if next == 0 {
+            return Slot::Free;
+        }
+        if next == usize::from(FULL) {
+            return Slot::Several;
+        }
+        Slot::Only(next - 1)
     }
-    if next == usize::from(FULL) {
-        return Slot::Several;
+
+    // The value is in the list.
+    pub(crate) fn has(self, w: Value) -> bool
+        ensures { result ≡ elem_z w.0 self.entry.list.now }
+    {
+        match self.slot_of(w) {
+            Slot::Free => false,
+            Slot::Only(i) => i < self.list.len() && self.list[i] == w.0,
+            Slot::Several => self.list.contains(&w.0),
+        }
     }
-    Slot::Only(next - 1)
+
+    // Marks the cells of the values that are w.
+    pub(crate) fn mark(self, w: Value, row: &mut [u8])
+        requires { length row.old ≡ length self.list.now }
+        ensures { row.new ≡ marked w.0 self.entry.list.now row.old }
+    {
+        match self.slot_of(w) {
+            Slot::Free => {}
+            Slot::Only(i) => {
+                if i < self.list.len() && self.list[i] == w.0 {
+                    row[i] = 1;
+                }
+            }
+            Slot::Several => mark_all(self.list, w, row),
+        }
+    }
 }

@@ -1,5 +1,6 @@
 -- `compose::childless::has_child` meets its contract.
 use Rattle.std.proofs.Common.{◌∙◌, ◌||◌, ◌+◌, ap, sym, Bool}
+use Rattle.compose.specs.Known.{values_of}
 use Rattle.compose.proofs.Paired.{among, among_end, among_other, among_pair}
 use Rattle.compose.proofs.childless.has_child.Goals.{in-Some+else-has, in_default}
 use Rattle.compose.proofs.childless.has_child.Goals as goal
@@ -8,8 +9,8 @@ pub returns-then-has : goal.returns-then-has
 returns-then-has g c =
     let f = g.M.Members.member c.args.members in
     let k = c.loop-k.k in
-    let high = c.args.span.high in
-    let list = c.args.children.list.now in
+    let high = c.args.span.end in
+    let list = values_of c.args.children in
     let v = c.args.v.0 in
     sym (sym c.loop-k.invariant ∙ among_pair f v list k high c.loop-k-test.true c.in-Some.w.0 c.in-Some.ensures ∙ ap (λ (b : Bool). b || among f v list (k + 1) high) (sym c.has.ensures ∙ c.if-has.true))
 
@@ -17,8 +18,8 @@ pub loop-k-preserved : goal.loop-k-preserved
 loop-k-preserved g c =
     let f = g.M.Members.member c.args.members in
     let k = c.loop-k.k in
-    let high = c.args.span.high in
-    let list = c.args.children.list.now in
+    let high = c.args.span.end in
+    let list = values_of c.args.children in
     let v = c.args.v.0 in
     elim c.match-child_at.branch [
       | in-Some+else-has u ↦ sym (among_pair f v list k high c.loop-k-test.true u.in-Some.w.0 u.in-Some.ensures ∙ ap (λ (b : Bool). b || among f v list (k + 1) high) (sym u.has.ensures ∙ u.if-has.false)) ∙ c.loop-k.invariant
@@ -26,4 +27,4 @@ loop-k-preserved g c =
     ]
 
 pub returns : goal.returns
-returns g c = sym (sym c.loop-k.invariant ∙ among_end (g.M.Members.member c.args.members) c.args.v.0 c.args.children.list.now c.loop-k.k c.args.span.high c.loop-k-test.false)
+returns g c = sym (sym c.loop-k.invariant ∙ among_end (g.M.Members.member c.args.members) c.args.v.0 (values_of c.args.children) c.loop-k.k c.args.span.end c.loop-k-test.false)

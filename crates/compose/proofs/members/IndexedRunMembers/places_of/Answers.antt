@@ -11,14 +11,15 @@ returns-then-span c =
     let m = c.args.self in
     let s = c.span_of-span.result in
     let e = c.span_of-span.ensures in (
-      any_key c.args.v.0 (records_of m.run.now) ∙ span_key m.run.now m.places.now c.args.v.0 s.low s.high e m.indexed ∙ ltb_yes s.low s.high c.if-span.true,
+      any_key c.args.v.0 (records_of m.run.now) ∙ span_key m.run.now m.places.now c.args.v.0 s.start s.end e m.indexed ∙ ltb_yes s.start s.end c.if-span.true,
       e.low_le,
       e.high_le,
-      span_pairs m.run.now m.places.now c.args.v.0 s.low s.high e m.indexed,
+      span_pairs m.run.now m.places.now c.args.v.0 s.start s.end e m.indexed,
+      e,
     )
 
 pub returns-else-span : goal.returns-else-span
 returns-else-span c =
     let m = c.args.self in
     let s = c.span_of-span.result in
-    any_key c.args.v.0 (records_of m.run.now) ∙ span_key m.run.now m.places.now c.args.v.0 s.low s.high c.span_of-span.ensures m.indexed ∙ ltb_no s.low s.high c.if-span.false
+    any_key c.args.v.0 (records_of m.run.now) ∙ span_key m.run.now m.places.now c.args.v.0 s.start s.end c.span_of-span.ensures m.indexed ∙ ltb_no s.start s.end c.if-span.false

@@ -16,6 +16,7 @@ returns-then-has_p c =
       omega arith,
       omega arith,
       λ w. any_pair v w (records_of run) ∙ ap (any (pairs_at v w)) (sym (ap (map (record_at run)) (between_all (length run / 32)) ∙ records_upto run)),
+      tt,
     )
 
 pub returns-else-has_p : goal.returns-else-has_p

@@ -1,18 +1,19 @@
--- `compose::places::Plan::is_childless` meets its contract. The invariant: some field is childless exactly where one of those from f on is.
-use mathlib.Core.Path.{◌∙◌, sym}
-use native.Mathlib.Numerals.{add-one}
-use native.Mathlib.Omega.{arith}
-use lib.ListN.{length}
-use Rattle.compose.proofs.Stepping.{any_more, any-stop}
-use Rattle.compose.proofs.places.Plan.is_childless.Invariants.{is_childless}
+-- `compose::places::Plan::is_childless` meets its contract.
+use Rattle.std.proofs.Common.{◌∙◌, Bool, ℕ, arith, refl, rules, length, map}
+use Rattle.std.proofs.lemmas.Iterator.{YieldsList-from_range}
+use Rattle.std.proofs.lemmas.Iterator.Search.{any_from_yields_List}
+use Rattle.lists.specs.Lists.{upto}
+use Rattle.compose.specs.Maps.{childless_map}
+use Rattle.compose.specs.Plans.{list_of, map_onto}
+use Rattle.compose.specs.declared.places.Plan.{Plan}
+use Rattle.compose.proofs.Stepping.{any_range}
 use Rattle.compose.proofs.places.Plan.is_childless.Goals as goal
 
-pub returns-then-is_childless_field : goal.returns-then-is_childless_field
-returns-then-is_childless_field c =
-    let l = c.loop-f in
-    sym (sym l.invariant ∙ any-stop (is_childless c.args.self.now) (length c.args.self.now.order.now) l.f (omega arith) (sym c.is_childless_field.ensures ∙ c.if-is_childless_field.true))
+abbrev is_childless : Plan → ℕ → Bool
+is_childless plan f = childless_map (map (list_of plan) (upto (length plan.order.now))) (map_onto plan f) f
 
-pub loop-f-preserved : goal.loop-f-preserved
-loop-f-preserved c =
-    let l = c.loop-f in
-    rw (add-one l.f) (sym (any_more (is_childless c.args.self.now) (length c.args.self.now.order.now) l.f (omega arith) (sym c.is_childless_field.ensures ∙ c.if-is_childless_field.false)) ∙ l.invariant)
+pub returns : goal.returns
+returns c =
+    let n = length c.args.self.now.order.now in
+    let test = is_childless c.args.self.now in
+    any_from_yields_List test _ _ c.any.result c.any.ensures.ran (YieldsList-from_range 0 n n refl (omega arith)) (λ x b q k. search rules) ∙ any_range test 0 n

@@ -10,7 +10,7 @@ pub returns-in-Some : goal.returns-in-Some
 returns-in-Some c =
     let p = c.args.self.now in
     let m = c.in-Some.map in
-    c.is_childless_map.ensures
+    c.run.ensures
     ∙ rw (
       c.members.ensures,
       c.list-in-Some.ensures,
