@@ -63,12 +63,10 @@ fn compact_ascending(list: &mut [i64], items: IndexedRun) -> usize
         list[kept] = list[i];
         kept += 1;
         let from = i + 1;
-        i = from
-            + Ascending {
-                list: &list[from..],
-            }
-            .next_item(items)
-            .0;
+        let rest = Ascending {
+            list: &list[from..],
+        };
+        i = from + rest.next_item(items).0;
     }
     kept
 }

@@ -64,8 +64,8 @@ module _ (p : ℤ → Bool) (l₀ l : List ℤ) (w i : ℕ) (n : Next p l₀ l w
       subst (λ (n : ℕ). Next p l₀ left (w + 1) (i + 1 + n)) (sym (r ∙ ap (λ (z : List ℤ). least (λ b. p (get_or z b (pos 0))) 0 (length z)) part_is))
       (next-is p l₀ left (w + 1) (i + 1) (length d) 0 (omega (arith, kept.long, kept.inside, length-drop (i + 1) left)) (rw (add-zero (i + 1)) kept))
 
-pub invariant_of-next_item-in-loop-i : goal.invariant_of-next_item-in-loop-i
-invariant_of-next_item-in-loop-i c =
+pub invariant_of-rest : goal.invariant_of-rest
+invariant_of-rest c =
     let l = c.loop-i in
     record { ascends = part_up (is_item c.args.items.run.now) c.args.list.now l.list l.kept l.i l.invariant (omega (arith, l.invariant.0.long)) _ (to_z-of_z w64 (get_or l.list l.i (pos 0)) (search rules)) c.requires }
 

@@ -20,10 +20,10 @@ loop-number-preserved c =
     let e = add-one (get_or c.args.chosen.now l.number-index 0) in
     let t = forced_turn c.args.file.now c.args.heads.now c.args.chosen.now l.number-index l.row f.new.row l.wrote f.result (omega arith) (rw (c.from-k.ensures, e) at f.ensures.wrote) (rw (c.from-k.ensures, e) at f.ensures.row) in
     let wrote : c.if-force_by.wrote ≡ (l.wrote || f.result) =
-        elim c.if-force_by.branch [
-          | then-force_by w ↦ w.wrote-is ∙ sym (or_true l.wrote) ∙ ap (λ b. l.wrote || b) (sym w.if-force_by.true)
-          | else-force_by w ↦ w.wrote-is ∙ sym (or_false l.wrote) ∙ ap (λ b. l.wrote || b) (sym w.if-force_by.false)
-        ]
+    elim c.if-force_by.branch [
+      | then-force_by w ↦ w.wrote-is ∙ sym (or_true l.wrote) ∙ ap (λ b. l.wrote || b) (sym w.if-force_by.true)
+      | else-force_by w ↦ w.wrote-is ∙ sym (or_false l.wrote) ∙ ap (λ b. l.wrote || b) (sym w.if-force_by.false)
+    ]
     in
     (ap (λ b. b || is_forced (chosen_in c.args.file.now c.args.heads.now (drop (l.number-index + 1) c.args.chosen.now)) f.new.row) wrote ∙ t.0 ∙ l.invariant.0, t.1 ∙ l.invariant.1)
 
