@@ -89,10 +89,9 @@ fn with_kinds<F: Fn(Kind) -> bool>(
     ensures { (test : KindTest) → TestIs (F.post is_chosen) test → Taken rules.entry.file.now rules.entry.heads.now test before numbers.old result numbers.new }
 {
     let mut count = before;
-    // By number, which is what is written.
-    for k in 1..rules.heads.len() {
-        if is_chosen(kind_at(rules.file, rules.heads[k - 1])) {
-            numbers[count] = (k - 1) as u8;
+    for k in 0..rules.count() {
+        if is_chosen(kind_at(rules.file, rules.heads[k])) {
+            numbers[count] = k as u8;
             count += 1;
         }
     }
