@@ -1,4 +1,4 @@
--- `evaluate::indexing::index_heads` meets its contract. The invariant: nothing is indexed from the head before k on.
+-- `evaluate::indexing::index_heads` meets its contract. The invariant: nothing is indexed from head k on.
 use lib.ListN.{get_or}
 use Rattle.registry.specs.Index.{IndexIn}
 use Rattle.evaluate.specs.Code.{Unindexed}
