@@ -8,7 +8,7 @@ use crate::slots::{REMAINDERS, Slots, lay_slots};
 use crate::values::Values;
 use registry::sorting::IndexedRun;
 
-// What it asks of the values of both lists and of the cells, and what it gives and leaves in the cells, by the members' entries and those values.
+// What is to be done: what it asks of both lists and of the cells, and what it gives and leaves in the cells, by the members' entries and both lists.
 pub(crate) trait MapTask {
     ghost use Rattle.std.specs.Prelude.{List, ℕ, ℤ};
     ghost use Rattle.spec.specs.Spec.{Entry};
@@ -19,7 +19,7 @@ pub(crate) trait MapTask {
 
     ghost gives: { Self → List Entry → (parents list : List ℤ) → Self.Answer → List ℕ → Type 0 };
 
-    // Goes by the values of the parent's list.
+    // Goes by the values of the parent's list. It and `by_keys` are two, since one turns to a value and the other to a key, of which there may be fewer.
     fn by_parents<M: Members>(
         &self,
         members: M,
