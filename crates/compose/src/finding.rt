@@ -15,6 +15,7 @@ use spec::numbers::{Index, Value};
 use spec::records::{p_at, q_at};
 
 // No value is below the one before it.
+// The library's `is_sorted`, its promise said once in this crate's word: without it each of the callers would prove that.
 pub(crate) fn is_ascending(list: &[i64]) -> bool
     ensures { result ≡ is_ascending list.now }
 {
@@ -22,11 +23,13 @@ pub(crate) fn is_ascending(list: &[i64]) -> bool
 }
 
 // The first index from `from` on whose value passes the test; the list's length if there is none.
+// That `from` is at most the length is the bound of the call's own index, here and in the other searches.
 pub(crate) fn first_where<F: Fn(Value) -> bool>(list: &[i64], from: Index, passes: F) -> Index
     requires can { F.IsAlwaysCallable passes }
     requires inside { from.0 ≤ length list.now }
     ensures { (p : ℤ → Bool) → Answers (F.post passes) p → result.0 ≡ least (λ k. p (get_or list.now k (pos 0))) from.0 (length list.now - from.0) }
 {
+    // By index: `position` would count from `from` and give an Option, to be turned back into an index of the list.
     for i in from.0..list.len() {
         if passes(Value(list[i])) {
             return Index(i);
@@ -36,6 +39,7 @@ pub(crate) fn first_where<F: Fn(Value) -> bool>(list: &[i64], from: Index, passe
 }
 
 // Marks the cells of a list's values that are w.
+// That the row has a cell for each value is the bound of the call's own index, here and in the other functions that mark.
 pub(crate) fn mark_all(list: &[i64], w: Value, row: &mut [u8])
     requires { length row.old ≡ length list.now }
     ensures { row.new ≡ marked w.0 list.now row.old }
@@ -86,6 +90,7 @@ impl<'a> Ascending<'a> {
         requires { length row.old ≡ length self.list.now }
         ensures { row.new ≡ marked w.0 self.entry.list.now row.old }
     {
+        // By index: to go through values and cells by `zip`, both would have to be cut at the first.
         for i in self.reach(w, Index(0)).0..self.list.len() {
             if self.list[i] != w.0 {
                 return;
@@ -99,6 +104,7 @@ impl<'a> Ascending<'a> {
         ensures { result.0 ≡ least (λ k. elem_z (get_or self.entry.list.now k (pos 0)) (ps_of (records_of items.entry.run.now))) 0 (length self.entry.list.now) }
     {
         let mut i = 0;
+        // The index jumps to the next item: a `for` would have to pass over each value between.
         while i < self.list.len() {
             let x = self.list[i];
             let k = items.lower(Value(x), Value(i64::MIN));
@@ -115,11 +121,13 @@ impl<'a> Ascending<'a> {
     }
 
     // The first index from `from` on whose value is paired with v; the list's length if there is none.
+    // It goes from pair to pair, which asks for a list that ascends: `next_tried`, for any list, has to try each value.
     pub(crate) fn next_pair(self, members: IndexedRun, v: Value, from: Index) -> Index
         requires { from.0 ≤ length self.list.now }
         ensures { result.0 ≡ least (λ k. any (is_pair v.0 (get_or self.entry.list.now k (pos 0))) (map entry_of (records_of members.entry.run.now))) from.0 (length self.entry.list.now - from.0) }
     {
         let mut i = from.0;
+        // The index jumps to the next pair: a `for` would have to pass over each value between.
         while i < self.list.len() {
             let w = Value(self.list[i]);
             let k = members.lower(v, w);

@@ -24,14 +24,14 @@ pub(crate) trait Members: Copy {
 
     ghost member: { Self → ℕ → Record };
 
-    // What is known of the places from one to before another if they are where the pairs of a value stand.
+    // The pairs of a value stand at the places from start to before end.
     ghost spans: { Self → ℤ → (start end : ℕ) → Type 0 };
 
     // Where the pairs of parent value v stand, if it is a key.
     fn places_of(self, v: Value) -> Option<Range<usize>>
         ensures { MatchOption result (any (is_key v.0) (entries self) ≡ false) (λ s. (any (is_key v.0) (entries self) ≡ true) × (s.start ≤ s.end) × (s.end ≤ many self) × ((w : ℤ) → any (is_pair v.0 w) (entries self) ≡ any (pairs_at v.0 w) (map (member self) (between s.start s.end))) × spans self v.0 s.start s.end) };
 
-    // v and w are a pair; the pairs of v stand at the places from start to before end.
+    // v and w are a pair; start and end are those of the places of v.
     fn has_pair(self, start: usize, end: usize, v: Value, w: Value) -> bool
         requires { spans self v.0 start end }
         ensures { result ≡ any (is_pair v.0 w.0) (entries self) };

@@ -8,7 +8,7 @@ use crate::slots::{REMAINDERS, Slots, lay_slots};
 use crate::values::Values;
 use registry::sorting::IndexedRun;
 
-// What it asks of the values of both lists and of the cells, and what it gives and leaves in the cells, by the members' entries and those values.
+// What is to be done: what it asks of both lists and of the cells, and what it gives and leaves in the cells, by the members' entries and both lists.
 pub(crate) trait MapTask {
     ghost use Rattle.std.specs.Prelude.{List, ℕ, ℤ};
     ghost use Rattle.spec.specs.Spec.{Entry};
@@ -19,7 +19,7 @@ pub(crate) trait MapTask {
 
     ghost gives: { Self → List Entry → (parents list : List ℤ) → Self.Answer → List ℕ → Type 0 };
 
-    // Goes by the values of the parent's list.
+    // Goes by the values of the parent's list. It and `by_keys` are two, since one turns to a value and the other to a key, of which there may be fewer.
     fn by_parents<M: Members>(
         &self,
         members: M,
@@ -84,53 +84,53 @@ fn run_indexed<T: MapTask>(
 // The same; the members are indexed first where that is worth it.
 fn run_on<T: MapTask>(
     task: &T,
-    run: &[u8],
+    members: &[u8],
     parents: &[i64],
     children: Values,
     cells: &mut [u8],
 ) -> T::Answer
     requires { T.asks task.now parents.now (values_of children) cells.old }
-    ensures { T.gives task.now (map entry_of (records_of run.now)) parents.now (values_of children.entry) result cells.new }
+    ensures { T.gives task.now (map entry_of (records_of members.now)) parents.now (values_of children.entry) result cells.new }
 {
-    if !is_worth(run.len() / 32, parents.len()) {
-        return task.by_parents(Run(run), parents, children, cells);
+    if !is_worth(members.len() / 32, parents.len()) {
+        return task.by_parents(Run(members), parents, children, cells);
     }
     let mut room = [0usize; ROOM];
-    run_indexed(task, indexed(run, &mut room), parents, children, cells)
+    run_indexed(task, indexed(members, &mut room), parents, children, cells)
 }
 
 // The same; the slots of the child's list are laid first.
 fn run_slotted<T: MapTask>(
     task: &T,
-    run: &[u8],
+    members: &[u8],
     parents: &[i64],
     list: &[i64],
     cells: &mut [u8],
 ) -> T::Answer
     requires { T.asks task.now parents.now list.now cells.old }
-    ensures { T.gives task.now (map entry_of (records_of run.now)) parents.now list.now result cells.new }
+    ensures { T.gives task.now (map entry_of (records_of members.now)) parents.now list.now result cells.new }
 {
     let mut numbers = [0u16; REMAINDERS];
     lay_slots(list, &mut numbers);
     let numbers = &numbers;
     let children = Values::Slotted(Slots { list, numbers });
-    run_on(task, run, parents, children, cells)
+    run_on(task, members, parents, children, cells)
 }
 
 // Does the task; the slots of the child's list are laid where it does not ascend and that is worth it.
 pub(crate) fn run<T: MapTask>(
     task: &T,
-    run: &[u8],
+    members: &[u8],
     parents: &[i64],
     list: &[i64],
     cells: &mut [u8],
 ) -> T::Answer
     requires { T.asks task.now parents.now list.now cells.old }
-    ensures { T.gives task.now (map entry_of (records_of run.now)) parents.now list.now result cells.new }
+    ensures { T.gives task.now (map entry_of (records_of members.now)) parents.now list.now result cells.new }
 {
     let children = Values::new(list);
-    if !children.ascends() && is_worth_slots(run.len() / 32, list.len()) {
-        return run_slotted(task, run, parents, list, cells);
+    if !children.ascends() && is_worth_slots(members.len() / 32, list.len()) {
+        return run_slotted(task, members, parents, list, cells);
     }
-    run_on(task, run, parents, children, cells)
+    run_on(task, members, parents, children, cells)
 }
