@@ -15,9 +15,6 @@ use Rattle.lists.proofs.All.{All_imp, filter-all}
 use Rattle.lists.proofs.Lists.{concat_map_append, count_if_le, count_if_or, filter_append, filter_every, get_d_left}
 use Rattle.lists.proofs.Tests.{no_ge, or_true, yes_lt}
 use Rattle.spec.specs.Kind.{ConstraintKind, Kind, bitmask, constraint, cross, enable_mask, enable_set, eq, even, field, ge, gt, le, lt, member, neq, oneof, projector, range, unknown}
-use Rattle.spec.specs.Code.{as_kind}
-use Rattle.spec.specs.declared.kinds.Kind as code
-use Rattle.spec.specs.declared.kinds.Kind.TheVariants as kinds
 use Rattle.spec.specs.Record.{Group, Record, constraint_by, constraint_in, constraint_of, group, record_at}
 use Rattle.spec.specs.Spec.{ConstraintSpec, Enabling, by_mask, by_set}
 use Rattle.registry.specs.Code.{group_in}
@@ -272,60 +269,3 @@ chosen_both file heads old new m n first kept later j z l = go (ltb j m) refl
         let v = ap length kept in
         subst (KindAt file heads is_enabling) (ap (λ ks. get_or ks j 0) (sym kept) ∙ get_or-take m new j 0 h ∙ sym (get_or-take n new j 0 inside.0)) (either file heads (get_or (take m old) j 0) (first j z (omega arith)))
     go false e = either' file heads (get_or (take n new) j 0) (later j (no_ge j m e) l)
-
--- ---- the tests, of the code's kinds
-pub no_mask : (k : code.Kind) → (k ≡ kinds.EnableMask → ⊥) → is_mask (as_kind k) ≡ false
-no_mask kinds.Field h = refl
-no_mask kinds.Value h = refl
-no_mask kinds.Item h = refl
-no_mask kinds.Pair h = refl
-no_mask kinds.Key h = refl
-no_mask kinds.Disable h = refl
-no_mask kinds.Assign h = refl
-no_mask kinds.Axis h = refl
-no_mask kinds.Range h = refl
-no_mask kinds.Even h = refl
-no_mask kinds.Eq h = refl
-no_mask kinds.Neq h = refl
-no_mask kinds.Lt h = refl
-no_mask kinds.Gt h = refl
-no_mask kinds.Le h = refl
-no_mask kinds.Ge h = refl
-no_mask kinds.Oneof h = refl
-no_mask kinds.Cross h = refl
-no_mask kinds.EnableMask h = absurd (h refl)
-no_mask kinds.Bitmask h = refl
-no_mask kinds.EnableSet h = refl
-no_mask kinds.Sum h = refl
-no_mask kinds.Identity h = refl
-no_mask kinds.Parity h = refl
-no_mask kinds.Decompose h = refl
-no_mask (kinds.Unknown n) h = refl
-
-pub no_set : (k : code.Kind) → (k ≡ kinds.EnableSet → ⊥) → is_set (as_kind k) ≡ false
-no_set kinds.Field h = refl
-no_set kinds.Value h = refl
-no_set kinds.Item h = refl
-no_set kinds.Pair h = refl
-no_set kinds.Key h = refl
-no_set kinds.Disable h = refl
-no_set kinds.Assign h = refl
-no_set kinds.Axis h = refl
-no_set kinds.Range h = refl
-no_set kinds.Even h = refl
-no_set kinds.Eq h = refl
-no_set kinds.Neq h = refl
-no_set kinds.Lt h = refl
-no_set kinds.Gt h = refl
-no_set kinds.Le h = refl
-no_set kinds.Ge h = refl
-no_set kinds.Oneof h = refl
-no_set kinds.Cross h = refl
-no_set kinds.EnableMask h = refl
-no_set kinds.Bitmask h = refl
-no_set kinds.EnableSet h = absurd (h refl)
-no_set kinds.Sum h = refl
-no_set kinds.Identity h = refl
-no_set kinds.Parity h = refl
-no_set kinds.Decompose h = refl
-no_set (kinds.Unknown n) h = refl

@@ -4,3 +4,4 @@ pub mod Force
 pub mod Walk
 pub mod Code
 pub mod Plans
+pub mod Props

@@ -1,16 +1,17 @@
 // The lists of the fields, laid into the lent scratch: each domain, narrowed in place.
-ghost use Rattle.std.specs.Prelude.{◌≡◌, Bool, ℤ, true, ◌≤◌, pos, length, take, replicate};
+ghost use Rattle.std.specs.Prelude.{◌≡◌, Bool, ℤ, true, ◌/◌, ◌≤◌, ◌<◌, pos, length, take, replicate};
 ghost use mathlib.Core.List.{foldl, map};
 ghost use Rattle.lists.specs.Integers.{elem_z};
 ghost use Rattle.lists.specs.Lists.{concat_map, filter, sum_n, over};
 ghost use Rattle.spec.specs.Code.{as_record, InScale, ps_of};
 ghost use Rattle.spec.specs.Domain.{domain};
-ghost use Rattle.spec.specs.Record.{constraint_of, field_by, field_of, records_of};
-ghost use Rattle.registry.specs.Code.{group_in, HeadIn};
+ghost use Rattle.spec.specs.Record.{constraint_of, field_by, field_of, record_at, records_of};
+ghost use Rattle.registry.specs.Code.{group_in, mask_in};
 ghost use Rattle.compose.specs.Maps.{allowed, narrow_by};
-ghost use Rattle.compose.specs.Code.{Answers, constraints_in, fields_in, FieldIn, FieldsIn, HeadsIn, is_ascending, list_places, lists_by, packed_lists, span_of};
+ghost use Rattle.compose.specs.Code.{Answers, constraints_in, fields_in, FieldIn, FieldsIn, is_ascending, list_places, lists_by, packed_lists, span_of};
 
 use crate::finding::{is_ascending, next_item};
+use crate::groups::Rules;
 use crate::members::{INDEXED, ROOM, indexed};
 use crate::places::Span;
 use registry::check::meets;
@@ -19,13 +20,6 @@ use spec::domains::{domain_len, domain_value, has_p, part};
 use spec::kinds::Kind;
 use spec::numbers::{Index, Value};
 use spec::records::{Record, record_at};
-
-// Zeros.
-pub fn clear(list: &mut [i64])
-    ensures { list.new ≡ replicate (length list.old) (pos 0) }
-{
-    list.fill(0);
-}
 
 // Lays the domain of field h, whose values are the records given.
 pub(crate) fn lay_domain(h: Record, values: &[u8], list: &mut [i64])
@@ -44,6 +38,7 @@ fn compact<F: Fn(Value) -> bool>(list: &mut [i64], passes: F) -> usize
     ensures left { (p : ℤ → Bool) → Answers (F.post passes) p → list.new ≡ over (filter p list.old) list.old }
 {
     let mut kept = 0;
+    // By index: the values in front are written while those behind are read, which no iterator over the list lets.
     for i in 0..list.len() {
         let x = list[i];
         if passes(Value(x)) {
@@ -54,6 +49,7 @@ fn compact<F: Fn(Value) -> bool>(list: &mut [i64], passes: F) -> usize
     kept
 }
 
+// Not one function with `compact`: that would take the next index as its parameter, and count here what is a search below.
 // Moves the values of a list that ascends that are among the items to the front, item by item; how many they are.
 fn compact_ascending(list: &mut [i64], items: IndexedRun) -> usize
     requires { is_ascending list.old ≡ true }
@@ -62,6 +58,7 @@ fn compact_ascending(list: &mut [i64], items: IndexedRun) -> usize
 {
     let mut kept = 0;
     let mut i = next_item(&list[..], items).0;
+    // `while`: the next index is searched for, so that no range has it.
     while i < list.len() {
         list[kept] = list[i];
         kept += 1;
@@ -96,7 +93,7 @@ fn compact_items(list: &mut [i64], run: &[u8]) -> usize
 
 // Narrows the list of field f by the constraint at record head: keeps the values that meet it, or all where none does; how many are kept.
 fn narrow_by(file: &[u8], head: usize, end: usize, f: usize, list: &mut [i64]) -> usize
-    requires { HeadIn file.now head end 32 }
+    requires { (head < end) × (end ≤ length file.now / 32) × (mask_in (record_at file.now head).kind (record_at file.now head).p ≡ true) }
     ensures count { result ≡ length (foldl (narrow_by f) list.old (constraint_of (group_in file.now head end))) }
     ensures left { list.new ≡ over (foldl (narrow_by f) list.old (constraint_of (group_in file.now head end))) list.old }
 {
@@ -117,62 +114,44 @@ fn narrow_by(file: &[u8], head: usize, end: usize, f: usize, list: &mut [i64]) -
 }
 
 // Narrows it by each constraint, in file order.
-fn narrow_all(file: &[u8], heads: &[usize], f: usize, list: &mut [i64]) -> usize
-    requires { HeadsIn file.now heads.now 32 }
-    ensures count { result ≡ length (foldl (narrow_by f) list.old (constraints_in file.now heads.now)) }
-    ensures front { take result list.new ≡ foldl (narrow_by f) list.old (constraints_in file.now heads.now) }
+fn narrow_all(rules: Rules, f: usize, list: &mut [i64]) -> usize
+    ensures count { result ≡ length (foldl (narrow_by f) list.old (constraints_in rules.entry.file.now rules.entry.heads.now)) }
+    ensures front { take result list.new ≡ foldl (narrow_by f) list.old (constraints_in rules.entry.file.now rules.entry.heads.now) }
 {
     let mut len = list.len();
+    let heads = rules.heads;
+    // By number: `windows(2)` gives slices, of which head and end would be read by index again.
     for k in 1..heads.len() {
-        len = narrow_by(file, heads[k - 1], heads[k], f, &mut list[..len]);
+        len = narrow_by(rules.file, heads[k - 1], heads[k], f, &mut list[..len]);
     }
     len
 }
 
 // Lays the allowed list of the field at record head, which is field f; its length.
-fn lay_list(
-    file: &[u8],
-    head: usize,
-    end: usize,
-    heads: &[usize],
-    f: usize,
-    list: &mut [i64],
-) -> usize
-    requires { FieldIn file.now head end × HeadsIn file.now heads.now 32 × (sum_n (map (λ d. length (domain d)) (field_of (group_in file.now head end))) ≤ length list.old) }
-    ensures count { result ≡ length (concat_map (λ d. allowed (constraints_in file.now heads.now) f d) (field_of (group_in file.now head end))) }
-    ensures front { take result list.new ≡ concat_map (λ d. allowed (constraints_in file.now heads.now) f d) (field_of (group_in file.now head end)) }
+fn lay_list(rules: Rules, head: usize, end: usize, f: usize, list: &mut [i64]) -> usize
+    requires { FieldIn rules.file.now head end × (sum_n (map (λ d. length (domain d)) (field_of (group_in rules.file.now head end))) ≤ length list.old) }
+    ensures count { result ≡ length (concat_map (λ d. allowed (constraints_in rules.entry.file.now rules.entry.heads.now) f d) (field_of (group_in rules.entry.file.now head end))) }
+    ensures front { take result list.new ≡ concat_map (λ d. allowed (constraints_in rules.entry.file.now rules.entry.heads.now) f d) (field_of (group_in rules.entry.file.now head end)) }
 {
-    let h = record_at(file, head);
-    let values = part(file, head + 1, end);
+    let h = record_at(rules.file, head);
+    let values = part(rules.file, head + 1, end);
     let len = domain_len(h, values.len() / 32);
     lay_domain(h, values, &mut list[..len]);
-    narrow_all(file, heads, f, &mut list[..len])
+    narrow_all(rules, f, &mut list[..len])
 }
 
-// Lays the lists of the fields one behind the other, by the constraints given, and zeros to the end. In lists, where that of each field lies.
-pub(crate) fn lay_lists(
-    file: &[u8],
-    fields: &[usize],
-    constraints: &[usize],
-    scratch: &mut [i64],
-    lists: &mut [Span],
-)
-    requires { (length fields.now ≤ 33) × FieldsIn file.now fields.now × HeadsIn file.now constraints.now 32 × (sum_n (map (λ d. length (domain d)) (fields_in file.now fields.now)) ≤ length scratch.old) × (lists.old ≡ replicate 32 (span_of 0 0)) }
-    ensures scratch { scratch.new ≡ packed_lists (lists_by (constraints_in file.now constraints.now) (fields_in file.now fields.now)) (length scratch.old) }
-    ensures lists { lists.new ≡ list_places (map length (lists_by (constraints_in file.now constraints.now) (fields_in file.now fields.now))) }
+// Lays the lists of the fields one behind the other, by the constraints given of their file, and zeros to the end. In lists, where that of each field lies.
+pub(crate) fn lay_lists(rules: Rules, fields: &[usize], scratch: &mut [i64], lists: &mut [Span])
+    requires { (length fields.now ≤ 33) × FieldsIn rules.file.now fields.now × (sum_n (map (λ d. length (domain d)) (fields_in rules.file.now fields.now)) ≤ length scratch.old) × (lists.old ≡ replicate 32 (span_of 0 0)) }
+    ensures scratch { scratch.new ≡ packed_lists (lists_by (constraints_in rules.entry.file.now rules.entry.heads.now) (fields_in rules.entry.file.now fields.now)) (length scratch.old) }
+    ensures lists { lists.new ≡ list_places (map length (lists_by (constraints_in rules.entry.file.now rules.entry.heads.now) (fields_in rules.entry.file.now fields.now))) }
 {
     let mut at = 0;
+    // By number, which is the field's too: `windows(2)` gives slices, of which head and end would be read by index again.
     for k in 1..fields.len() {
-        let len = lay_list(
-            file,
-            fields[k - 1],
-            fields[k],
-            constraints,
-            k - 1,
-            &mut scratch[at..],
-        );
+        let len = lay_list(rules, fields[k - 1], fields[k], k - 1, &mut scratch[at..]);
         lists[k - 1] = Span { start: at, len };
         at += len;
     }
-    clear(&mut scratch[at..]);
+    scratch[at..].fill(0);
 }

@@ -7,8 +7,9 @@ ghost use Rattle.spec.specs.Code.{as_kind};
 ghost use Rattle.spec.specs.Record.{assignment_of, constraint_of, records_of};
 ghost use Rattle.registry.specs.Code.{group_in};
 ghost use Rattle.compose.specs.Force.{force_by, write};
-ghost use Rattle.compose.specs.Code.{as_engine, chosen_in, constraints_in, enables_of, EnableIn, EnablesIn, groups_in, has_kind, HeadsIn, is_enabling, is_forced, is_mask, is_set, ChosenFrom, KindTest, Taken, TestIs};
+ghost use Rattle.compose.specs.Code.{as_engine, chosen_in, constraints_in, enables_of, EnableIn, EnablesIn, groups_in, has_kind, is_enabling, is_forced, is_mask, is_set, ChosenFrom, KindTest, Taken, TestIs};
 
+use crate::groups::Rules;
 use spec::domains::part;
 use spec::kinds::Kind;
 use spec::records::{a_at, kind_at, p_at};
@@ -61,36 +62,36 @@ pub fn force(file: &[u8], heads: &[usize], chosen: &[u8], row: &mut [i64]) -> bo
 fn is_mask(kind: Kind) -> bool
     ensures { result ≡ is_mask (as_kind kind) }
 {
-    kind == Kind::EnableMask
+    matches!(kind, Kind::EnableMask)
 }
 
 fn is_set(kind: Kind) -> bool
     ensures { result ≡ is_set (as_kind kind) }
 {
-    kind == Kind::EnableSet
+    matches!(kind, Kind::EnableSet)
 }
 
 // Of an enable record.
-fn is_enabling(kind: Kind) -> bool
+pub fn is_enabling(kind: Kind) -> bool
     ensures { result ≡ is_enabling (as_kind kind) }
 {
-    is_mask(kind) | is_set(kind)
+    matches!(kind, Kind::EnableMask | Kind::EnableSet)
 }
 
 // Behind the first `before` numbers, writes those of the heads of the kinds chosen; how many numbers there are then.
 fn with_kinds<F: Fn(Kind) -> bool>(
-    file: &[u8],
-    heads: &[usize],
+    rules: Rules,
     is_chosen: F,
     before: usize,
     numbers: &mut [u8],
 ) -> usize
-    requires { F.IsAlwaysCallable is_chosen × HeadsIn file.now heads.now 32 × (length heads.now ≤ 257) × ((test : KindTest) × TestIs (F.post is_chosen) test × (before + count_if (has_kind test) (groups_in file.now heads.now) ≤ length numbers.old)) }
-    ensures { (test : KindTest) → TestIs (F.post is_chosen) test → Taken file.now heads.now test before numbers.old result numbers.new }
+    requires { F.IsAlwaysCallable is_chosen × (length rules.heads.now ≤ 257) × ((test : KindTest) × TestIs (F.post is_chosen) test × (before + count_if (has_kind test) (groups_in rules.file.now rules.heads.now) ≤ length numbers.old)) }
+    ensures { (test : KindTest) → TestIs (F.post is_chosen) test → Taken rules.entry.file.now rules.entry.heads.now test before numbers.old result numbers.new }
 {
     let mut count = before;
-    for k in 1..heads.len() {
-        if is_chosen(kind_at(file, heads[k - 1])) {
+    // By number, which is what is written.
+    for k in 1..rules.heads.len() {
+        if is_chosen(kind_at(rules.file, rules.heads[k - 1])) {
             numbers[count] = (k - 1) as u8;
             count += 1;
         }
@@ -99,17 +100,17 @@ fn with_kinds<F: Fn(Kind) -> bool>(
 }
 
 // Writes the numbers of the enable records in the order in which they force: structural in file order, exhaustive all enable_mask first, then all enable_set. How many there are.
-pub fn enables_of(engine: Engine, file: &[u8], heads: &[usize], numbers: &mut [u8]) -> usize
-    requires { HeadsIn file.now heads.now 32 × (length heads.now ≤ 257) × (length numbers.old ≡ 256) }
-    ensures chosen { chosen_in file.now heads.now (take result numbers.new) ≡ enables_of (as_engine engine) (constraints_in file.now heads.now) }
-    ensures kinds { (result ≤ 256) × ChosenFrom file.now heads.now 0 is_enabling (take result numbers.new) }
+pub fn enables_of(engine: Engine, rules: Rules, numbers: &mut [u8]) -> usize
+    requires { (length rules.heads.now ≤ 257) × (length numbers.old ≡ 256) }
+    ensures chosen { chosen_in rules.entry.file.now rules.entry.heads.now (take result numbers.new) ≡ enables_of (as_engine engine) (constraints_in rules.entry.file.now rules.entry.heads.now) }
+    ensures kinds { (result ≤ 256) × ChosenFrom rules.entry.file.now rules.entry.heads.now 0 is_enabling (take result numbers.new) }
     ensures rest { drop result numbers.new ≡ drop result numbers.old }
 {
     match engine {
-        Engine::Structural => with_kinds(file, heads, is_enabling, 0, numbers),
+        Engine::Structural => with_kinds(rules, is_enabling, 0, numbers),
         Engine::Exhaustive => {
-            let masks = with_kinds(file, heads, is_mask, 0, numbers);
-            with_kinds(file, heads, is_set, masks, numbers)
+            let masks = with_kinds(rules, is_mask, 0, numbers);
+            with_kinds(rules, is_set, masks, numbers)
         }
     }
 }

@@ -3,8 +3,7 @@ ghost use Rattle.std.specs.Prelude.{◌≡◌, ◌+◌, ◌<◌, drop, length, t
 ghost use Rattle.spec.specs.Record.{records_of, groups};
 ghost use Rattle.compose.specs.Code.{groups_in, Rising};
 
-use spec::kinds::is_member;
-use spec::records::code_at;
+use spec::records::kind_at;
 
 // Room for the heads of every file that is not refused: 32 fields, 256 constraints, a projector, and the end of the file.
 pub const HEADS: usize = 290;
@@ -20,7 +19,7 @@ pub fn heads_of(file: &[u8], at: &mut [usize]) -> usize
     let n = file.len() / 32;
     let mut count = 0;
     for i in 0..n {
-        if !is_member(code_at(file, i)) {
+        if !kind_at(file, i).is_member() {
             at[count] = i;
             count += 1;
         }

@@ -5,6 +5,7 @@ mod childless;
 pub mod filters;
 mod finding;
 pub mod force;
+pub mod groups;
 pub mod heads;
 pub mod maps;
 mod members;

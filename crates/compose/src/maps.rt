@@ -2,26 +2,29 @@
 ghost use Rattle.std.specs.Prelude.{◌≡◌, map, ◌≤◌, None, replicate};
 ghost use Rattle.lists.specs.Lists.{upto};
 ghost use Rattle.compose.specs.Maps.{kept_map};
-ghost use Rattle.compose.specs.Code.{constraints_in, HeadsIn, map_in, MapsIn};
+ghost use Rattle.compose.specs.Code.{constraints_in, map_in, MapsIn};
 
+use crate::groups::Rules;
 use crate::places::KeptMap;
 use spec::kinds::Kind;
 use spec::records::{a_at, b_at, kind_at};
 
 // Writes the last cross onto each field, in maps that has none.
-pub(crate) fn kept_maps(file: &[u8], heads: &[usize], n: usize, maps: &mut [Option<KeptMap>])
-    requires { (n ≤ 32) × HeadsIn file.now heads.now n × (maps.old ≡ replicate 32 None) }
-    ensures maps { map (map_in file.now maps.new) (upto 32) ≡ map (kept_map (constraints_in file.now heads.now)) (upto 32) }
-    ensures inside { MapsIn file.now maps.new n }
+pub(crate) fn kept_maps(rules: Rules, maps: &mut [Option<KeptMap>])
+    requires { (rules.fields ≤ 32) × (maps.old ≡ replicate 32 None) }
+    ensures maps { map (map_in rules.entry.file.now maps.new) (upto 32) ≡ map (kept_map (constraints_in rules.entry.file.now rules.entry.heads.now)) (upto 32) }
+    ensures inside { MapsIn rules.entry.file.now maps.new rules.entry.fields }
 {
-    for k in 1..heads.len() {
-        let head = heads[k - 1];
+    let file = rules.file;
+    // By number: `windows(2)` gives slices, of which head and end would be read by index again.
+    for k in 1..rules.heads.len() {
+        let head = rules.heads[k - 1];
         if kind_at(file, head) == Kind::Cross {
             let f = b_at(file, head);
             maps[f] = Some(KeptMap {
                 parent: a_at(file, head),
                 from: head + 1,
-                to: heads[k],
+                to: rules.heads[k],
             });
         }
     }

@@ -1,25 +1,23 @@
 -- The index of a file with the members of one more head in it: their places behind the head, and the head marked.
 use mathlib.Core.Bool.{Bool, ◌||◌, false, true}
-use mathlib.Core.List.{List, [], ◌∷◌, map}
+use mathlib.Core.List.{List, [], ◌∷◌}
 use mathlib.Core.Logic.{◌⊎◌, inl, inr}
 use mathlib.Core.Path.{◌∙◌, ◌≡◌, ap, ap₂, refl, subst, sym}
 use Prim.Native.Nat.{◌+◌, ◌-◌, ◌/◌, ◌<◌, ◌≤◌, suc, zero, ℕ}
-use native.Mathlib.Nat.{add-zero}
 use native.Mathlib.Numerals.{add-one}
 use native.Mathlib.Omega.{arith}
 use borrow.Rule.Slice.PartMut.{drop_put, mid_len, put_mid, same_len_mid, take_put}
 use lib.Dec.{ltb}
 use lib.ListN.{get_or-eq_default, drop, get_or, get_or-replicate, length, length-set, replicate, set, take}
 use lib.Seq.{drop_at, drop-set-lt, get_or-drop, get_or-set_same, get_or-take, length-take-le, take_at, take-nil, take-set-le, take-take}
-use Rattle.lists.specs.Lists.{any, upto}
-use Rattle.lists.proofs.Lists.{any_append}
-use Rattle.lists.proofs.Numbers.{upto_add}
-use Rattle.lists.proofs.Tests.{no_ge, or_false, or_true, yes_lt}
+use Rattle.std.specs.List.{list_any, range_with_len}
+use Rattle.lists.specs.Lists.{any, span}
+use Rattle.lists.proofs.Tests.{no_ge, yes_lt}
 use Rattle.spec.specs.Record.{records_of}
 use Rattle.spec.proofs.Fields.{length_records}
 use Rattle.registry.specs.Index.{Indexed, IndexedAt, IndexIn}
 use Rattle.registry.proofs.Alike.{indexed-same}
-use Rattle.evaluate.specs.Code.{Unindexed}
+use Rattle.evaluate.specs.Code.{Unindexed, is_long_at, is_long_run}
 
 -- ---- parts of a list
 drop-take : (k n m : ℕ) (l : List ℕ) → k + n ≡ m → drop k (take m l) ≡ take n (drop k l)
@@ -44,21 +42,13 @@ drop_entry xs ys n j h q =
 pub part_size : (file run : List ℕ) (from end : ℕ) → end ≤ length file / 32 → records_of run ≡ take (end - from) (drop from (records_of file)) → length run / 32 ≡ end - from
 part_size file run from end h e = sym (length_records run) ∙ ap length e ∙ mid_len from end (records_of file) (subst (λ (n : ℕ). end ≤ n) (sym (length_records file)) h)
 
--- ---- whether one of the numbers passes a test
-module _ (p : ℕ → Bool) where
-  any_one_more : (j : ℕ) → any p (upto (suc j)) ≡ (any p (upto j) || p j)
-  any_one_more j =
-      ap (λ (n : ℕ). any p (upto n)) (sym (add-one j)) ∙ ap (any p) (upto_add j 1) ∙ any_append p (upto j) (map (λ f. j + f) (upto 1)) ∙ ap (λ (n : ℕ). any p (upto j) || (p n || false)) (add-zero j)
-      ∙ ap (λ (b : Bool). any p (upto j) || b) (or_false (p j))
-
-  pub none_more : (j : ℕ) → any p (upto j) ≡ false → p j ≡ false → any p (upto (suc j)) ≡ false
-  none_more j a b = any_one_more j ∙ ap₂ ◌||◌ a b
-
-  pub some_here : (j n : ℕ) → j < n → p j ≡ true → any p (upto n) ≡ true
-  some_here j n h e =
-      let q : n ≡ suc j + (n - suc j) = omega arith in
-      ap (λ (k : ℕ). any p (upto k)) q ∙ ap (any p) (upto_add (suc j) (n - suc j)) ∙ any_append p (upto (suc j)) _
-      ∙ ap (λ (b : Bool). b || any p (map (λ f. suc j + f) (upto (n - suc j)))) (any_one_more j ∙ ap (λ (b : Bool). any p (upto j) || b) e ∙ or_true (any p (upto j)))
+-- ---- whether one of the heads is long, asked by the number of the next
+pub long_places : (file heads : List ℕ) (n from : ℕ) → list_any (λ (k : ℕ). is_long_run 16 file (get_or heads (k - 1) 0) (get_or heads k 0)) (range_with_len (suc from) n) ≡ any (is_long_at file heads) (span from n)
+long_places file heads zero from = refl
+long_places file heads (suc n) from =
+    let e : suc from - 1 ≡ from = omega arith in
+    ap₂ ◌||◌ (ap (λ (k : ℕ). is_long_run 16 file (get_or heads k 0) (get_or heads (suc from) 0)) e)
+    (ap (λ (a : ℕ). list_any (λ (k : ℕ). is_long_run 16 file (get_or heads (k - 1) 0) (get_or heads k 0)) (range_with_len a n)) (add-one (suc from)) ∙ long_places file heads n (suc from))
 
 -- ---- an index of zeros
 module _ (file index : List ℕ) (zeros : index ≡ replicate (length index) 0) where

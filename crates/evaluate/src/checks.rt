@@ -13,6 +13,7 @@ use spec::domains::{allows_value, part};
 use spec::numbers::Value;
 use spec::records::record_at;
 
+// Its own file, heads and fields, not `Rules`: those say of every head that it lies in the file, here the heads chosen have to.
 // Constraints that rows are asked about: the heads of all of a file's, the numbers of those chosen among them, the index of the long lists of members, and how many values a row has.
 #[derive(Clone, Copy)]
 pub struct Checks<'a> {
@@ -48,8 +49,8 @@ impl<'a> Checks<'a> {
         ensures first { from_one result ≡ first_chosen (holds_at self.now.file.now self.now.heads.now row.now) self.now.chosen.now }
         ensures few { from_one result ≤ 256 }
     {
-        for j in 0..self.chosen.len() {
-            let k = usize::from(self.chosen[j]);
+        for number in self.chosen {
+            let k = usize::from(*number);
             if !check(self.file, self.heads[k], self.heads[k + 1], self.index, row) {
                 return Some(k);
             }

@@ -3,9 +3,9 @@ ghost use Rattle.std.specs.Prelude.{◌≡◌, ◌+◌, ◌-◌, ◌/◌, ◌≤
 ghost use Rattle.lists.specs.Lists.{any, upto};
 ghost use Rattle.spec.specs.Code.{as_kind};
 ghost use Rattle.registry.specs.Index.{IndexIn};
-ghost use Rattle.compose.specs.Code.{HeadsIn};
 ghost use Rattle.evaluate.specs.Code.{is_listed, is_long_at, is_long_run, Unindexed};
 
+use compose::groups::Rules;
 use registry::sorting::index_run;
 use spec::domains::part;
 use spec::kinds::Kind;
@@ -24,10 +24,7 @@ const ROWS: usize = 20;
 fn is_listed(kind: Kind) -> bool
     ensures { result ≡ is_listed (as_kind kind) }
 {
-    match kind {
-        Kind::Oneof | Kind::Cross => true,
-        _ => false,
-    }
+    matches!(kind, Kind::Oneof | Kind::Cross)
 }
 
 // Such a head of more members than the number given.
@@ -39,16 +36,11 @@ fn is_long(file: &[u8], head: usize, end: usize, least: usize) -> bool
 }
 
 // One of the heads has more than 16; shorter ones are read through.
-pub fn has_long(file: &[u8], heads: &[usize]) -> bool
-    requires { HeadsIn file.now heads.now 32 }
-    ensures { result ≡ any (is_long_at file.now heads.now) (upto (length heads.now - 1)) }
+pub fn has_long(rules: Rules) -> bool
+    ensures { result ≡ any (is_long_at rules.entry.file.now rules.entry.heads.now) (upto (length rules.entry.heads.now - 1)) }
 {
-    for k in 1..heads.len() {
-        if is_long(file, heads[k - 1], heads[k], LONG) {
-            return true;
-        }
-    }
-    false
+    let heads = rules.heads;
+    (1..heads.len()).any(|k| is_long(rules.file, heads[k - 1], heads[k], LONG))
 }
 
 // So many rows are worth an index.
@@ -74,19 +66,14 @@ fn index_at(file: &[u8], head: usize, end: usize, index: &mut [usize], spare: &m
 }
 
 // Indexes the heads that have more members than the number given, in an index of zeros.
-pub fn index_heads(
-    file: &[u8],
-    heads: &[usize],
-    least: usize,
-    index: &mut [usize],
-    spare: &mut [usize],
-)
-    requires { HeadsIn file.now heads.now 32 × (length file.now / 32 ≤ length index.old) × (length index.old ≤ 2048) × (length spare.old ≡ length index.old) × (index.old ≡ replicate (length index.old) 0) }
-    ensures { IndexIn file.now index.new }
+pub fn index_heads(rules: Rules, least: usize, index: &mut [usize], spare: &mut [usize])
+    requires { (length rules.file.now / 32 ≤ length index.old) × (length index.old ≤ 2048) × (length spare.old ≡ length index.old) × (index.old ≡ replicate (length index.old) 0) }
+    ensures { IndexIn rules.entry.file.now index.new }
 {
-    for k in 1..heads.len() {
-        let head = heads[k - 1];
-        let end = heads[k];
+    let file = rules.file;
+    for k in 1..rules.heads.len() {
+        let head = rules.heads[k - 1];
+        let end = rules.heads[k];
         if is_long(file, head, end, least) {
             index_at(file, head, end, index, spare);
         }

@@ -34,31 +34,31 @@ module _ (h : code.Record) (file values : List ℕ) (head end : ℕ) (is : Field
     room list s = let r = field_room h file values head end is e values-are (length list) s in omega (arith, long)
 
 pub slice_bounds-lay_domain-end : goal.slice_bounds-lay_domain-end
-slice_bounds-lay_domain-end c = room c.record_at-h.result c.args.file.now c.part-values.result.now c.args.head c.args.end c.requires.0 c.record_at-h.ensures.read c.part-values.ensures.records c.domain_len-len.result c.domain_len-len.ensures c.args.list.now c.requires.2
+slice_bounds-lay_domain-end c = room c.record_at-h.result c.args.rules.file.now c.part-values.result.now c.args.head c.args.end c.requires.0 c.record_at-h.ensures.read c.part-values.ensures.records c.domain_len-len.result c.domain_len-len.ensures c.args.list.now c.requires.1
 
 pub slice_bounds-lay_domain-end-2 : goal.slice_bounds-lay_domain-end-2
 slice_bounds-lay_domain-end-2 c =
-    let m = room c.record_at-h.result c.args.file.now c.part-values.result.now c.args.head c.args.end c.requires.0 c.record_at-h.ensures.read c.part-values.ensures.records c.domain_len-len.result c.domain_len-len.ensures c.args.list.now c.requires.2 in
+    let m = room c.record_at-h.result c.args.rules.file.now c.part-values.result.now c.args.head c.args.end c.requires.0 c.record_at-h.ensures.read c.part-values.ensures.records c.domain_len-len.result c.domain_len-len.ensures c.args.list.now c.requires.1 in
     sym (length-take-le c.domain_len-len.result c.args.list.now m)
 
 pub lay_domain-requires : goal.lay_domain-requires
 lay_domain-requires c =
     let h = c.record_at-h in
     let d = c.domain_len-len in
-    let m = room h.result c.args.file.now c.part-values.result.now c.args.head c.args.end c.requires.0 h.ensures.read c.part-values.ensures.records d.result d.ensures c.args.list.now c.requires.2 in
-    let n = long h.result c.args.file.now c.part-values.result.now c.args.head c.args.end c.requires.0 h.ensures.read c.part-values.ensures.records d.result d.ensures in
-    (field_scaled h.result c.args.file.now c.args.head c.args.end c.requires.0 h.ensures.read, length-take-le d.result c.args.list.now m ∙ n)
+    let m = room h.result c.args.rules.file.now c.part-values.result.now c.args.head c.args.end c.requires.0 h.ensures.read c.part-values.ensures.records d.result d.ensures c.args.list.now c.requires.1 in
+    let n = long h.result c.args.rules.file.now c.part-values.result.now c.args.head c.args.end c.requires.0 h.ensures.read c.part-values.ensures.records d.result d.ensures in
+    (field_scaled h.result c.args.rules.file.now c.args.head c.args.end c.requires.0 h.ensures.read, length-take-le d.result c.args.list.now m ∙ n)
 
 -- the list with the domain in front is as long as it was
 pub slice_bounds-narrow_all-end : goal.slice_bounds-narrow_all-end
 slice_bounds-narrow_all-end c =
-    let m = room c.record_at-h.result c.args.file.now c.part-values.result.now c.args.head c.args.end c.requires.0 c.record_at-h.ensures.read c.part-values.ensures.records c.domain_len-len.result c.domain_len-len.ensures c.args.list.now c.requires.2 in
+    let m = room c.record_at-h.result c.args.rules.file.now c.part-values.result.now c.args.head c.args.end c.requires.0 c.record_at-h.ensures.read c.part-values.ensures.records c.domain_len-len.result c.domain_len-len.ensures c.args.list.now c.requires.1 in
     let q = length_front c.args.list.now c.lay_domain.new.list c.domain_len-len.result c.lay_domain.auto.list in
     omega arith
 
 pub slice_bounds-narrow_all-end-2 : goal.slice_bounds-narrow_all-end-2
 slice_bounds-narrow_all-end-2 c =
-    let m = room c.record_at-h.result c.args.file.now c.part-values.result.now c.args.head c.args.end c.requires.0 c.record_at-h.ensures.read c.part-values.ensures.records c.domain_len-len.result c.domain_len-len.ensures c.args.list.now c.requires.2 in
+    let m = room c.record_at-h.result c.args.rules.file.now c.part-values.result.now c.args.head c.args.end c.requires.0 c.record_at-h.ensures.read c.part-values.ensures.records c.domain_len-len.result c.domain_len-len.ensures c.args.list.now c.requires.1 in
     let q = length_front c.args.list.now c.lay_domain.new.list c.domain_len-len.result c.lay_domain.auto.list in
     sym (length-take-le c.domain_len-len.result _ (omega arith))
 
@@ -66,17 +66,17 @@ pub returns : goal.returns
 returns c =
     let len = c.domain_len-len.result in
     let h = c.record_at-h in
-    let cs = constraints_in c.args.file.now c.args.heads.now in
+    let cs = constraints_in c.args.rules.file.now c.args.rules.heads.now in
     let laid = c.lay_domain.new.list in
     let n = c.narrow_all.ensures in
-    let m = room h.result c.args.file.now c.part-values.result.now c.args.head c.args.end c.requires.0 h.ensures.read c.part-values.ensures.records len c.domain_len-len.ensures c.args.list.now c.requires.2 in
+    let m = room h.result c.args.rules.file.now c.part-values.result.now c.args.head c.args.end c.requires.0 h.ensures.read c.part-values.ensures.records len c.domain_len-len.ensures c.args.list.now c.requires.1 in
     let front =
     take_at laid (drop len c.args.list.now) len (c.lay_domain.auto.list ∙ length-take-le len c.args.list.now m)
     ∙ c.lay_domain.ensures
     in
     let e =
     ap (λ (z : List ℤ). foldl (narrow_by c.args.f) z cs) front
-    ∙ field_allowed h.result c.args.file.now c.part-values.result.now c.args.head c.args.end c.requires.0 h.ensures.read (values-are h.result c.args.file.now c.part-values.result.now c.args.head c.args.end c.requires.0 h.ensures.read c.part-values.ensures.records) cs c.args.f
+    ∙ field_allowed h.result c.args.rules.file.now c.part-values.result.now c.args.head c.args.end c.requires.0 h.ensures.read (values-are h.result c.args.rules.file.now c.part-values.result.now c.args.head c.args.end c.requires.0 h.ensures.read c.part-values.ensures.records) cs c.args.f
     in
     let count = n.count ∙ ap length e in
     record { count = count; front = front_part c.narrow_all.result _ c.narrow_all.new.list _ count (n.front ∙ e) }

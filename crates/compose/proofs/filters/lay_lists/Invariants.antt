@@ -6,4 +6,4 @@ use Rattle.compose.proofs.Laid.{Laid}
 use Rattle.compose.proofs.filters.lay_lists.Given as goal
 
 abbrev pub invariant-loop-k : goal.invariant-loop-k
-invariant-loop-k l = Laid l.file l.fields (constraints_in l.file l.constraints) (length l.initial.scratch) l.scratch l.lists l.at l.k × (length l.lists ≡ 32)
+invariant-loop-k l = Laid l.rules.file.now l.fields (constraints_in l.rules.file.now l.rules.heads.now) (length l.initial.scratch) l.scratch l.lists l.at l.k × (length l.lists ≡ 32)

@@ -11,18 +11,20 @@ use Rattle.compose.proofs.Positions.{fold_end, fold_turn, head_turn_lem}
 use Rattle.compose.proofs.filters.narrow_all.Goals as goal
 
 pub loop-k-init : goal.loop-k-init
-loop-k-init c = (omega arith, ap (λ (z : List ℤ). foldl (narrow_by c.args.f) z (constraints_in c.args.file.now c.args.heads.now)) (take-length c.args.list.now))
+loop-k-init c = (omega arith, ap (λ (z : List ℤ). foldl (narrow_by c.args.f) z (constraints_in c.args.rules.file.now c.args.rules.heads.now)) (take-length c.args.list.now))
 
 pub narrow_by-len-requires : goal.narrow_by-len-requires
 narrow_by-len-requires c =
     let l = c.loop-k in
-    head_turn_lem (λ head end. HeadIn c.args.file.now head end 32) c.args.heads.now l.k c.requires l.auto.k c.loop-k-test.true
+    let rules = c.args.rules in
+    let h = head_turn_lem (λ head end. HeadIn rules.file.now head end rules.fields) rules.heads.now l.k rules.inside l.auto.k c.loop-k-test.true in
+    (h.before, h.inside, h.mask)
 
 pub loop-k-preserved : goal.loop-k-preserved
 loop-k-preserved c =
     let l = c.loop-k in
-    let file = c.args.file.now in
-    let heads = c.args.heads.now in
+    let file = c.args.rules.file.now in
+    let heads = c.args.rules.heads.now in
     let by = narrow_by c.args.f in
     let old = take l.len l.list in
     let rest = drop l.len l.list in
@@ -37,5 +39,5 @@ loop-k-preserved c =
 pub returns : goal.returns
 returns c =
     let l = c.loop-k in
-    let e = sym (fold_end (narrow_by c.args.f) constraint_of c.args.file.now c.args.heads.now l.k l.auto.k (take l.len l.list) (omega arith)) ∙ l.invariant.1 in
+    let e = sym (fold_end (narrow_by c.args.f) constraint_of c.args.rules.file.now c.args.rules.heads.now l.k l.auto.k (take l.len l.list) (omega arith)) ∙ l.invariant.1 in
     record { count = sym (length-take-le l.len l.list l.invariant.0) ∙ ap length e; front = e }

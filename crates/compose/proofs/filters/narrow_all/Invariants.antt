@@ -6,4 +6,4 @@ use Rattle.compose.specs.Code.{constraints_in}
 use Rattle.compose.proofs.filters.narrow_all.Given as goal
 
 abbrev pub invariant-loop-k : goal.invariant-loop-k
-invariant-loop-k l = (l.len ≤ length l.list) × (foldl (narrow_by l.f) (take l.len l.list) (constraints_in l.file (drop (l.k - 1) l.heads)) ≡ foldl (narrow_by l.f) l.initial.list (constraints_in l.file l.heads))
+invariant-loop-k l = (l.len ≤ length l.list) × (foldl (narrow_by l.f) (take l.len l.list) (constraints_in l.rules.file.now (drop (l.k - 1) l.rules.heads.now)) ≡ foldl (narrow_by l.f) l.initial.list (constraints_in l.rules.file.now l.rules.heads.now))

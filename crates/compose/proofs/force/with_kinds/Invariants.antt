@@ -5,4 +5,4 @@ use Rattle.compose.proofs.Chosen.{Picked}
 use Rattle.compose.proofs.force.with_kinds.Given as goal
 
 abbrev pub invariant-loop-k : goal.invariant-loop-k
-invariant-loop-k g l = goal.F-IsAlwaysCallable g l.is_chosen × ((test : KindTest) → TestIs (λ k r. goal.F-post g l.is_chosen k r) test → Picked l.file l.heads test l.initial.numbers l.before l.numbers l.count (l.k - 1))
+invariant-loop-k g l = goal.F-IsAlwaysCallable g l.is_chosen × ((test : KindTest) → TestIs (λ k r. goal.F-post g l.is_chosen k r) test → Picked l.rules.file.now l.rules.heads.now test l.initial.numbers l.before l.numbers l.count (l.k - 1))

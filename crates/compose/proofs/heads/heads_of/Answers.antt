@@ -1,25 +1,16 @@
 -- `compose::heads::heads_of` meets its contract. The invariant: the groups before record i, but for the members at i, stand at the positions found.
-use mathlib.Core.Bool.{Bool}
-use mathlib.Core.List.{List}
-use mathlib.Core.Path.{◌∙◌, ◌≡◌, ap, sym}
-use Prim.Native.Nat.{ℕ}
+use mathlib.Core.Path.{◌∙◌, ap, sym}
 use native.Mathlib.Omega.{arith}
-use Rattle.spec.specs.Kind.{is_member, kind_of}
-use Rattle.spec.specs.Record.{record_at}
-use Rattle.spec.proofs.Fields.{kind_of_lem}
+use Rattle.spec.specs.Kind.{is_member}
 use Rattle.compose.proofs.Narrowing.{rest_turn}
 use Rattle.compose.proofs.Positions.{headed_count, headed_end, headed_head, headed_member, headed_rising}
 use Rattle.compose.proofs.heads.heads_of.Goals.{else-not-is_member, then-not-is_member}
 use Rattle.compose.proofs.heads.heads_of.Goals as goal
 
--- the answer of a turn's test
-kind_is : (file : List ℕ) (i code : ℕ) (r : Bool) → code ≡ (record_at file i).code → r ≡ is_member (kind_of code) → is_member (record_at file i).kind ≡ r
-kind_is file i code r e t = ap is_member (kind_of_lem file i ∙ ap kind_of (sym e)) ∙ sym t
-
 pub loop-i-preserved : goal.loop-i-preserved
 loop-i-preserved c =
     let l = c.loop-i in
-    let kind = kind_is c.args.file.now l.i c.code_at.result c.is_member.result c.code_at.ensures c.is_member.ensures in
+    let kind = ap is_member (sym c.kind_at.ensures.kind) ∙ sym c.is_member.ensures in
     elim c.if-not-is_member.branch [
       | then-not-is_member u ↦ rw (u.at-is, u.count-is) (headed_head c.args.file.now c.args.at.now l.at l.count l.i l.invariant (omega arith) (kind ∙ u.if-not-is_member.true) c.requires)
       | else-not-is_member u ↦ rw (u.at-is, u.count-is) (headed_member c.args.file.now c.args.at.now l.at l.count l.i l.invariant (omega arith) (kind ∙ u.if-not-is_member.false))

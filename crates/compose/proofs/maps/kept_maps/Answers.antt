@@ -15,20 +15,20 @@ use Rattle.compose.proofs.maps.kept_maps.Goals.{else-eq, then-eq}
 use Rattle.compose.proofs.maps.kept_maps.Goals as goal
 
 pub loop-k-init : goal.loop-k-init
-loop-k-init c = subst (λ (maps : List MaybeMap). Kept c.args.file.now c.args.heads.now c.args.n maps 1) (sym c.requires.2) (kept-none c.args.file.now c.args.heads.now c.args.n)
+loop-k-init c = subst (λ (maps : List MaybeMap). Kept c.args.rules.file.now c.args.rules.heads.now c.args.rules.fields maps 1) (sym c.requires.1) (kept-none c.args.rules.file.now c.args.rules.heads.now c.args.rules.fields)
 
 pub loop-k-preserved : goal.loop-k-preserved
 loop-k-preserved c =
     let l = c.loop-k in
-    let head : HeadIn c.args.file.now (get_or c.args.heads.now (l.k - 1) 0) (get_or c.args.heads.now l.k 0) c.args.n =
-    head_turn_lem (λ head end. HeadIn c.args.file.now head end c.args.n) c.args.heads.now l.k c.requires.1 l.invariant.first (omega arith)
+    let head : HeadIn c.args.rules.file.now (get_or c.args.rules.heads.now (l.k - 1) 0) (get_or c.args.rules.heads.now l.k 0) c.args.rules.fields =
+    head_turn_lem (λ head end. HeadIn c.args.rules.file.now head end c.args.rules.fields) c.args.rules.heads.now l.k c.args.rules.inside l.invariant.first (omega arith)
     in
     elim c.if-eq.branch [
-      | then-eq u ↦ let e : c.kind_at.result ≡ kinds.Cross = search rules in rw u.maps-is (kept_cross c.args.file.now c.args.heads.now c.args.n l.maps l.k l.invariant (omega arith) c.requires.0 head u.a_at.result u.b_at-f.result u.a_at.ensures.0 u.b_at-f.ensures.0 (sym c.kind_at.ensures.kind ∙ ap as_kind e))
-      | else-eq u ↦ let e : c.kind_at.result ≡ kinds.Cross → ⊥ = search rules in rw u.maps-is (kept_other c.args.file.now c.args.heads.now c.args.n l.maps l.k l.invariant (omega arith) c.kind_at.result c.kind_at.ensures.kind e)
+      | then-eq u ↦ let e : c.kind_at.result ≡ kinds.Cross = search rules in rw u.maps-is (kept_cross c.args.rules.file.now c.args.rules.heads.now c.args.rules.fields l.maps l.k l.invariant (omega arith) c.requires.0 head u.a_at.result u.b_at-f.result u.a_at.ensures.0 u.b_at-f.ensures.0 (sym c.kind_at.ensures.kind ∙ ap as_kind e))
+      | else-eq u ↦ let e : c.kind_at.result ≡ kinds.Cross → ⊥ = search rules in rw u.maps-is (kept_other c.args.rules.file.now c.args.rules.heads.now c.args.rules.fields l.maps l.k l.invariant (omega arith) c.kind_at.result c.kind_at.ensures.kind e)
     ]
 
 pub returns : goal.returns
 returns c =
     let l = c.loop-k in
-    record { maps = kept_end c.args.file.now c.args.heads.now c.args.n l.maps l.k l.invariant (omega arith); inside = l.invariant.inside }
+    record { maps = kept_end c.args.rules.file.now c.args.rules.heads.now c.args.rules.fields l.maps l.k l.invariant (omega arith); inside = l.invariant.inside }

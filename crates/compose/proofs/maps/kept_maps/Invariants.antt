@@ -3,4 +3,4 @@ use Rattle.compose.proofs.Kept.{Kept}
 use Rattle.compose.proofs.maps.kept_maps.Given as goal
 
 abbrev pub invariant-loop-k : goal.invariant-loop-k
-invariant-loop-k l = Kept l.file l.heads l.n l.maps l.k
+invariant-loop-k l = Kept l.rules.file.now l.rules.heads.now l.rules.fields l.maps l.k

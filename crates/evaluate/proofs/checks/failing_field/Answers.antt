@@ -1,4 +1,4 @@
-use Rattle.std.proofs.Common.{◌∙◌, ◌≡◌, ◌+◌, Bool, true, List, ℤ, add-one, ap, arith, get_or, pos, rules, sym}
+use Rattle.std.proofs.Common.{◌∙◌, ◌≡◌, ◌+◌, Bool, true, List, ℤ, add-one, arith, get_or, pos, rules, sym}
 use Rattle.evaluate.specs.Code.{allowed_at}
 use Rattle.evaluate.proofs.Rows.{fields_more, fields-passed, fields-stop}
 use Rattle.evaluate.proofs.checks.failing_field.Goals.{Joined-else-value-raw, else-value-raw-via-then-value-raw+else-not-is_allowed, else-value-raw-via-else-value-raw}

@@ -1,15 +1,15 @@
-use Rattle.std.proofs.Common.{◌≡◌, ◌+◌, ◌-◌, arith, get_or, suc}
+use Rattle.std.proofs.Common.{◌≡◌, ◌+◌, ◌-◌, arith, suc}
 use Rattle.evaluate.proofs.Marked.{unindexed_up, zeros_index, zeros_unindexed}
 use Rattle.evaluate.proofs.indexing.index_heads.Goals.{then-is_long, else-is_long}
 use Rattle.evaluate.proofs.indexing.index_heads.Goals as goal
 
 pub loop-k-init : goal.loop-k-init
-loop-k-init c = (zeros_index c.args.file.now c.args.index.now c.requires.4, zeros_unindexed c.args.file.now c.args.index.now c.requires.4 _)
+loop-k-init c = (zeros_index c.args.rules.file.now c.args.index.now c.requires.3, zeros_unindexed c.args.rules.file.now c.args.index.now c.requires.3 _)
 
 pub loop-k-preserved : goal.loop-k-preserved
 loop-k-preserved c =
     let l = c.loop-k in
-    let h = c.requires.0 (l.k - 1) (omega arith) in
+    let h = c.args.rules.inside (l.k - 1) (omega arith) in
     let e : l.k + 1 - 1 ≡ l.k = omega arith in
     let n : suc (l.k - 1) ≡ l.k = omega arith in
     elim c.if-is_long.branch [
