@@ -34,7 +34,7 @@ use Rattle.classifier.specs.Count.{count_fault, scratch_after}
 use Rattle.classifier.specs.Page.{Page, Start, after_tuple, beginning, due, due_tuples, is_none, output_short, page_answer, page_fault, page_of, page_output, page_words, words_of}
 use Rattle.classifier.proofs.Answered.{fault-some, fault_file}
 use Rattle.classifier.proofs.Starts.{Wide, due-none, due_start, due_start-none}
-use Rattle.classifier.proofs.Walked.{walking_ready}
+use Rattle.classifier.proofs.Walked.{groups_opened, walking_ready}
 use Rattle.lists.specs.Lists.{over}
 use Rattle.spec.proofs.Numbered.{file_low, number_of}
 
@@ -105,7 +105,7 @@ pub prepared_late : (p : Prepared) (room : ℕ) (start : Start) → Wide start �
 prepared_late p room start wide r e =
     let engine = as_engine p.engine in
     let file = p.plan.file.now in
-    late_outcome engine (decoded file) room start (as_plan p.plan) p.planned.plan-is (none-due engine file p.heads.now p.constraints p.plan.scratch.now p.plan.lists.now p.plan.maps.now p.plan.order.now p.opened p.planned p.sound start wide) r e
+    late_outcome engine (decoded file) room start (as_plan p.plan) p.planned.plan-is (none-due engine file p.groups.heads.now p.groups.constraints p.plan.scratch.now p.plan.lists.now p.plan.maps.now p.plan.order.now (groups_opened p.groups file (length p.plan.order.now) p.file_is p.width_is) p.planned p.sound start wide) r e
 
 -- ---- a whole file
 module _ (engine : Engine) (file : List ℕ) (start : Start) (old scratch : List ℤ) where
