@@ -105,16 +105,14 @@ other_kind kinds.Decompose h = refl
 other_kind kinds.Cross h = absurd (h refl)
 other_kind (kinds.Unknown n) h = refl
 
--- ---- the maps kept so far, with the constraints from number k − 1 on, make the kept maps
+-- ---- the maps kept so far, with the constraints from number k on, make the kept maps
 pub record Kept (file heads : List ℕ) (n : ℕ) (maps : List MaybeMap) (k : ℕ) : Type 0 where
-  pub first : 1 ≤ k
   pub wide : length maps ≡ 32
   pub inside : MapsIn file maps n
-  pub whole : (f : ℕ) → f < 32 → foldl (keep_by f) (map_in file maps f) (constraints_in file (drop (k - 1) heads)) ≡ kept_map (constraints_in file heads) f
+  pub whole : (f : ℕ) → f < 32 → foldl (keep_by f) (map_in file maps f) (constraints_in file (drop k heads)) ≡ kept_map (constraints_in file heads) f
 
-pub kept-none : (file heads : List ℕ) (n : ℕ) → Kept file heads n (replicate 32 None) 1
+pub kept-none : (file heads : List ℕ) (n : ℕ) → Kept file heads n (replicate 32 None) 0
 kept-none file heads n = record {
-  first = omega arith;
   wide = refl;
   inside = λ f h m e. let z : None ≡ Some m = sym (none_at f h) ∙ e in cc;
   whole = λ f h. ap (λ o. foldl (keep_by f) (map_by file o) (constraints_in file heads)) (none_at f h);
@@ -124,26 +122,25 @@ kept-none file heads n = record {
     none_at f h = get_or-replicate {A = MaybeMap} 32 f None None h
 
 module _ (file heads : List ℕ) (n : ℕ) (maps : List MaybeMap) (k : ℕ) (m : Kept file heads n maps k) where
-  module _ (l : k < length heads) where
+  module _ (l : suc k < length heads) where
     abbrev head : ℕ
-    head = get_or heads (k - 1) 0
+    head = get_or heads k 0
 
     abbrev end : ℕ
-    end = get_or heads k 0
+    end = get_or heads (k + 1) 0
 
     abbrev members : List Record
     members = take (end - suc head) (drop (suc head) (records_of file))
 
     -- a turn leaves of each map what the constraint leaves
     turn : (maps' : List MaybeMap) (b : Bool) → is_cross (record_at file head).kind ≡ b → (f : ℕ) → f < 32 → map_in file maps' f ≡ cross_if b f (record_at file head) members (map_in file maps f)
-        → foldl (keep_by f) (map_in file maps' f) (constraints_in file (drop (k + 1 - 1) heads)) ≡ kept_map (constraints_in file heads) f
+        → foldl (keep_by f) (map_in file maps' f) (constraints_in file (drop (k + 1) heads)) ≡ kept_map (constraints_in file heads) f
     turn maps' b t f h e =
-        ap (λ o. foldl (keep_by f) o (constraints_in file (drop (k + 1 - 1) heads))) (e ∙ ap (λ (c : Bool). cross_if c f (record_at file head) members (map_in file maps f)) (sym t) ∙ sym (keep-kind f (record_at file head) members (map_in file maps f) (record_at file head).kind))
-        ∙ sym (fold_turn (keep_by f) constraint_of file heads k m.first (map_in file maps f) l) ∙ m.whole f h
+        ap (λ o. foldl (keep_by f) o (constraints_in file (drop (k + 1) heads))) (e ∙ ap (λ (c : Bool). cross_if c f (record_at file head) members (map_in file maps f)) (sym t) ∙ sym (keep-kind f (record_at file head) members (map_in file maps f) (record_at file head).kind))
+        ∙ sym (fold_turn (keep_by f) constraint_of file heads k (map_in file maps f) l) ∙ m.whole f h
 
     pub kept_other : (kind : code.Kind) → as_kind kind ≡ (record_at file head).kind → (kind ≡ kinds.Cross → ⊥) → Kept file heads n maps (k + 1)
     kept_other kind is other = record {
-      first = omega arith;
       wide = m.wide;
       inside = m.inside;
       whole = λ f h. turn maps false (ap is_cross (sym is) ∙ other_kind kind other) f h refl;
@@ -170,7 +167,6 @@ module _ (file heads : List ℕ) (n : ℕ) (maps : List MaybeMap) (k : ℕ) (m :
 
       pub kept_cross : (record_at file head).kind ≡ as_kind kinds.Cross → Kept file heads n next (k + 1)
       kept_cross is-cross = record {
-        first = omega arith;
         wide = length-set maps b (Some new) ∙ m.wide;
         inside = λ f h p e. in_next f h p e (ℕ_discrete f b);
         whole = λ f h. turn next true (ap is_cross is-cross) f h (map_next f h (ℕ_discrete f b));
@@ -189,5 +185,5 @@ module _ (file heads : List ℕ) (n : ℕ) (maps : List MaybeMap) (k : ℕ) (m :
               ap (map_by file) (old_at f x)
               ∙ ap (λ (c : Bool). replace_if c (record_at file head).a (map entry_of members) (map_in file maps f)) (sym (eqb_no (record_at file head).b f (λ e. x (sym e ∙ sym b_is))))
 
-  pub kept_end : length heads ≤ k → map (map_in file maps) (upto 32) ≡ map (kept_map (constraints_in file heads)) (upto 32)
-  kept_end l = map_ext (upto-All 32 (λ f h. sym (fold_end (keep_by f) constraint_of file heads k m.first (map_in file maps f) l) ∙ m.whole f h))
+  pub kept_end : length heads ≤ suc k → map (map_in file maps) (upto 32) ≡ map (kept_map (constraints_in file heads)) (upto 32)
+  kept_end l = map_ext (upto-All 32 (λ f h. sym (fold_end (keep_by f) constraint_of file heads k (map_in file maps f) l) ∙ m.whole f h))

@@ -47,14 +47,17 @@ pub head_turn_lem : (P : ℕ → ℕ → Type 0) (heads : List ℕ) (k : ℕ) �
 head_turn_lem P heads zero each h l = absurd (omega arith)
 head_turn_lem P heads (suc j) each h l = let e : suc j - 1 ≡ j = omega arith in rw e (each j l)
 
--- What each group decodes to, in a fold.
-module _ {A B : Type 0} (f : A → B → A) (of : Group → List B) (file heads : List ℕ) (k : ℕ) (h : 1 ≤ k) where
-  pub fold_turn : (a : A) → k < length heads
-      → foldl f a (concat_map of (groups_in file (drop (k - 1) heads))) ≡ foldl f (foldl f a (of (group_in file (get_or heads (k - 1) 0) (get_or heads k 0)))) (concat_map of (groups_in file (drop (k + 1 - 1) heads)))
-  fold_turn a l = ap (λ (gs : List Group). foldl f a (concat_map of gs)) (groups_loop file heads k h l) ∙ foldl-append f a (of (group_in file (get_or heads (k - 1) 0) (get_or heads k 0))) (concat_map of (groups_in file (drop (k + 1 - 1) heads)))
+-- What each group decodes to, in a fold from number k on.
+module _ {A B : Type 0} (f : A → B → A) (of : Group → List B) (file heads : List ℕ) (k : ℕ) where
+  pub fold_turn : (a : A) → suc k < length heads
+      → foldl f a (concat_map of (groups_in file (drop k heads))) ≡ foldl f (foldl f a (of (group_in file (get_or heads k 0) (get_or heads (k + 1) 0)))) (concat_map of (groups_in file (drop (k + 1) heads)))
+  fold_turn a l =
+      let e : groups_in file (drop k heads) ≡ group_in file (get_or heads k 0) (get_or heads (k + 1) 0) ∷ groups_in file (drop (k + 1) heads) = rw (add-one k) (groups_turn file heads k l) in
+      ap (λ (gs : List Group). foldl f a (concat_map of gs)) e
+      ∙ foldl-append f a (of (group_in file (get_or heads k 0) (get_or heads (k + 1) 0))) (concat_map of (groups_in file (drop (k + 1) heads)))
 
-  pub fold_end : (a : A) → length heads ≤ k → foldl f a (concat_map of (groups_in file (drop (k - 1) heads))) ≡ a
-  fold_end a l = ap (λ (gs : List Group). foldl f a (concat_map of gs)) (groups-done file heads k h l)
+  pub fold_end : (a : A) → length heads ≤ suc k → foldl f a (concat_map of (groups_in file (drop k heads))) ≡ a
+  fold_end a l = ap (λ (gs : List Group). foldl f a (concat_map of gs)) (groups_end file heads k l)
 
 -- ---- heads found from the front
 groups_more : (file l : List ℕ) (a b : ℕ) → groups_in file ((l ++ (a ∷ [])) ++ (b ∷ [])) ≡ groups_in file (l ++ (a ∷ [])) ++ (group_in file a b ∷ [])

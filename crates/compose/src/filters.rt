@@ -1,12 +1,12 @@
 // The lists of the fields, laid into the lent scratch: each domain, narrowed in place.
-ghost use Rattle.std.specs.Prelude.{◌≡◌, Bool, ℤ, true, ◌/◌, ◌≤◌, ◌<◌, pos, length, take, replicate};
+ghost use Rattle.std.specs.Prelude.{◌≡◌, Bool, ℤ, true, ◌+◌, ◌≤◌, ◌<◌, suc, pos, get_or, length, take, replicate};
 ghost use mathlib.Core.List.{foldl, map};
 ghost use Rattle.lists.specs.Integers.{elem_z};
 ghost use Rattle.lists.specs.Lists.{concat_map, filter, sum_n, over};
 ghost use Rattle.spec.specs.Code.{as_record, InScale, ps_of};
 ghost use Rattle.spec.specs.Domain.{domain};
-ghost use Rattle.spec.specs.Record.{constraint_of, field_by, field_of, record_at, records_of};
-ghost use Rattle.registry.specs.Code.{group_in, mask_in};
+ghost use Rattle.spec.specs.Record.{constraint_of, field_by, field_of, records_of};
+ghost use Rattle.registry.specs.Code.{group_in};
 ghost use Rattle.compose.specs.Maps.{allowed, narrow_by};
 ghost use Rattle.compose.specs.Code.{Answers, constraints_in, fields_in, FieldIn, FieldsIn, is_ascending, list_places, lists_by, packed_lists, span_of};
 
@@ -91,17 +91,19 @@ fn compact_items(list: &mut [i64], run: &[u8]) -> usize
     compact(list, |v| items.finds_p(v))
 }
 
-// Narrows the list of field f by the constraint at record head: keeps the values that meet it, or all where none does; how many are kept.
-fn narrow_by(file: &[u8], head: usize, end: usize, f: usize, list: &mut [i64]) -> usize
-    requires { (head < end) × (end ≤ length file.now / 32) × (mask_in (record_at file.now head).kind (record_at file.now head).p ≡ true) }
-    ensures count { result ≡ length (foldl (narrow_by f) list.old (constraint_of (group_in file.now head end))) }
-    ensures left { list.new ≡ over (foldl (narrow_by f) list.old (constraint_of (group_in file.now head end))) list.old }
+// Narrows the list of field f by constraint k: keeps the values that meet it, or all where none does; how many are kept.
+fn narrow_by(rules: Rules, k: usize, f: usize, list: &mut [i64]) -> usize
+    requires { suc k < length rules.heads.now }
+    ensures count { result ≡ length (foldl (narrow_by f) list.old (constraint_of (group_in rules.entry.file.now (get_or rules.entry.heads.now k 0) (get_or rules.entry.heads.now (k + 1) 0)))) }
+    ensures left { list.new ≡ over (foldl (narrow_by f) list.old (constraint_of (group_in rules.entry.file.now (get_or rules.entry.heads.now k 0) (get_or rules.entry.heads.now (k + 1) 0)))) list.old }
 {
+    let file = rules.file;
+    let head = rules.heads[k];
     let h = record_at(file, head);
     if h.a != f {
         return list.len();
     }
-    let run = part(file, head + 1, end);
+    let run = part(file, head + 1, rules.heads[k + 1]);
     let kind = h.kind;
     let met = match kind {
         Kind::Range => compact(list, |v| meets(Kind::Range, h.p, h.q, run, v)),
@@ -119,10 +121,8 @@ fn narrow_all(rules: Rules, f: usize, list: &mut [i64]) -> usize
     ensures front { take result list.new ≡ foldl (narrow_by f) list.old (constraints_in rules.entry.file.now rules.entry.heads.now) }
 {
     let mut len = list.len();
-    let heads = rules.heads;
-    // By number: `windows(2)` gives slices, of which head and end would be read by index again.
-    for k in 1..heads.len() {
-        len = narrow_by(rules.file, heads[k - 1], heads[k], f, &mut list[..len]);
+    for k in 0..rules.count() {
+        len = narrow_by(rules, k, f, &mut list[..len]);
     }
     len
 }

@@ -89,16 +89,16 @@ fn with_kinds<F: Fn(Kind) -> bool>(
     ensures { (test : KindTest) → TestIs (F.post is_chosen) test → Taken rules.entry.file.now rules.entry.heads.now test before numbers.old result numbers.new }
 {
     let mut count = before;
-    // By number, which is what is written.
-    for k in 1..rules.heads.len() {
-        if is_chosen(kind_at(rules.file, rules.heads[k - 1])) {
-            numbers[count] = (k - 1) as u8;
+    for k in 0..rules.count() {
+        if is_chosen(kind_at(rules.file, rules.heads[k])) {
+            numbers[count] = k as u8;
             count += 1;
         }
     }
     count
 }
 
+// At most 257 heads and room for 256 numbers, also in evaluate: numbers are u8; in `Rules` it would be asked of those that number nothing.
 // Writes the numbers of the enable records in the order in which they force: structural in file order, exhaustive all enable_mask first, then all enable_set. How many there are.
 pub fn enables_of(engine: Engine, rules: Rules, numbers: &mut [u8]) -> usize
     requires { (length rules.heads.now ≤ 257) × (length numbers.old ≡ 256) }

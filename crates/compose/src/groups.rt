@@ -12,6 +12,17 @@ pub struct Rules<'a> {
     pub ghost inside: { HeadsIn file.now heads.now fields },
 }
 
+impl<'a> Rules<'a> {
+    ghost use Rattle.std.specs.Prelude.{◌-◌, length};
+
+    // How many constraints there are. Number k has its head at `heads[k]`, and ends at `heads[k + 1]`.
+    pub fn count(self) -> usize
+        ensures { result ≡ length self.entry.heads.now - 1 }
+    {
+        self.heads.len().saturating_sub(1)
+    }
+}
+
 // An accepted file and where the heads of its groups stand: its fields, its constraints, its projector, and its end behind them.
 #[derive(Clone, Copy)]
 pub struct Groups<'a> {

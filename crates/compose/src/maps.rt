@@ -16,15 +16,14 @@ pub(crate) fn kept_maps(rules: Rules, maps: &mut [Option<KeptMap>])
     ensures inside { MapsIn rules.entry.file.now maps.new rules.entry.fields }
 {
     let file = rules.file;
-    // By number: `windows(2)` gives slices, of which head and end would be read by index again.
-    for k in 1..rules.heads.len() {
-        let head = rules.heads[k - 1];
+    for k in 0..rules.count() {
+        let head = rules.heads[k];
         if kind_at(file, head) == Kind::Cross {
             let f = b_at(file, head);
             maps[f] = Some(KeptMap {
                 parent: a_at(file, head),
                 from: head + 1,
-                to: rules.heads[k],
+                to: rules.heads[k + 1],
             });
         }
     }

@@ -2,7 +2,7 @@
 use mathlib.Core.Bool.{Bool, ◌||◌, false, true}
 use mathlib.Core.List.{List, [], ◌∷◌}
 use mathlib.Core.Logic.{◌⊎◌, inl, inr}
-use mathlib.Core.Path.{◌∙◌, ◌≡◌, ap, ap₂, refl, subst, sym}
+use mathlib.Core.Path.{◌∙◌, ◌≡◌, ap, refl, subst, sym}
 use Prim.Native.Nat.{◌+◌, ◌-◌, ◌/◌, ◌<◌, ◌≤◌, suc, zero, ℕ}
 use native.Mathlib.Numerals.{add-one}
 use native.Mathlib.Omega.{arith}
@@ -17,7 +17,7 @@ use Rattle.spec.specs.Record.{records_of}
 use Rattle.spec.proofs.Fields.{length_records}
 use Rattle.registry.specs.Index.{Indexed, IndexedAt, IndexIn}
 use Rattle.registry.proofs.Alike.{indexed-same}
-use Rattle.evaluate.specs.Code.{Unindexed, is_long_at, is_long_run}
+use Rattle.evaluate.specs.Code.{Unindexed}
 
 -- ---- parts of a list
 drop-take : (k n m : ℕ) (l : List ℕ) → k + n ≡ m → drop k (take m l) ≡ take n (drop k l)
@@ -42,13 +42,10 @@ drop_entry xs ys n j h q =
 pub part_size : (file run : List ℕ) (from end : ℕ) → end ≤ length file / 32 → records_of run ≡ take (end - from) (drop from (records_of file)) → length run / 32 ≡ end - from
 part_size file run from end h e = sym (length_records run) ∙ ap length e ∙ mid_len from end (records_of file) (subst (λ (n : ℕ). end ≤ n) (sym (length_records file)) h)
 
--- ---- whether one of the heads is long, asked by the number of the next
-pub long_places : (file heads : List ℕ) (n from : ℕ) → list_any (λ (k : ℕ). is_long_run 16 file (get_or heads (k - 1) 0) (get_or heads k 0)) (range_with_len (suc from) n) ≡ any (is_long_at file heads) (span from n)
-long_places file heads zero from = refl
-long_places file heads (suc n) from =
-    let e : suc from - 1 ≡ from = omega arith in
-    ap₂ ◌||◌ (ap (λ (k : ℕ). is_long_run 16 file (get_or heads k 0) (get_or heads (suc from) 0)) e)
-    (ap (λ (a : ℕ). list_any (λ (k : ℕ). is_long_run 16 file (get_or heads (k - 1) 0) (get_or heads k 0)) (range_with_len a n)) (add-one (suc from)) ∙ long_places file heads n (suc from))
+-- ---- whether one of the numbers from one on passes a test, as std says it
+pub any_places : (p : ℕ → Bool) (n from : ℕ) → list_any p (range_with_len from n) ≡ any p (span from n)
+any_places p zero from = refl
+any_places p (suc n) from = ap (λ (b : Bool). p from || b) (ap (λ (a : ℕ). list_any p (range_with_len a n)) (add-one from) ∙ any_places p n (suc from))
 
 -- ---- an index of zeros
 module _ (file index : List ℕ) (zeros : index ≡ replicate (length index) 0) where

@@ -43,6 +43,7 @@ impl<'a> Checks<'a> {
         }
     }
 
+    // That a row has a value for each field, here and below, is the length of the slice that the call lends.
     // The number of the first that does not hold, counted from 0.
     fn first_failing(&self, row: &[i64]) -> Option<usize>
         requires { length row.now ≡ self.now.fields }

@@ -1,5 +1,5 @@
 // The index of a file's long lists of members, for the checks of rows.
-ghost use Rattle.std.specs.Prelude.{◌≡◌, ◌+◌, ◌-◌, ◌/◌, ◌≤◌, ◌<◌, ltb, length, replicate};
+ghost use Rattle.std.specs.Prelude.{◌≡◌, suc, get_or, ◌+◌, ◌-◌, ◌/◌, ◌≤◌, ◌<◌, ltb, length, replicate};
 ghost use Rattle.lists.specs.Lists.{any, upto};
 ghost use Rattle.spec.specs.Code.{as_kind};
 ghost use Rattle.registry.specs.Index.{IndexIn};
@@ -27,20 +27,21 @@ fn is_listed(kind: Kind) -> bool
     matches!(kind, Kind::Oneof | Kind::Cross)
 }
 
-// Such a head of more members than the number given.
-fn is_long(file: &[u8], head: usize, end: usize, least: usize) -> bool
-    requires { (head < end) × (end ≤ length file.now / 32) }
-    ensures { result ≡ is_long_run least file.now head end }
+// Constraint k is of such a kind, and has more members than the number given.
+fn is_long(rules: Rules, k: usize, least: usize) -> bool
+    requires { suc k < length rules.heads.now }
+    ensures { result ≡ is_long_run least rules.entry.file.now (get_or rules.entry.heads.now k 0) (get_or rules.entry.heads.now (suc k) 0) }
 {
-    is_listed(kind_at(file, head)) & (least < end - head - 1)
+    let head = rules.heads[k];
+    let members = rules.heads[k + 1] - head - 1;
+    is_listed(kind_at(rules.file, head)) & (least < members)
 }
 
-// One of the heads has more than 16; shorter ones are read through.
+// One of the constraints has more than 16; shorter ones are read through.
 pub fn has_long(rules: Rules) -> bool
     ensures { result ≡ any (is_long_at rules.entry.file.now rules.entry.heads.now) (upto (length rules.entry.heads.now - 1)) }
 {
-    let heads = rules.heads;
-    (1..heads.len()).any(|k| is_long(rules.file, heads[k - 1], heads[k], LONG))
+    (0..rules.count()).any(|k| is_long(rules, k, LONG))
 }
 
 // So many rows are worth an index.
@@ -70,12 +71,9 @@ pub fn index_heads(rules: Rules, least: usize, index: &mut [usize], spare: &mut 
     requires { (length rules.file.now / 32 ≤ length index.old) × (length index.old ≤ 2048) × (length spare.old ≡ length index.old) × (index.old ≡ replicate (length index.old) 0) }
     ensures { IndexIn rules.entry.file.now index.new }
 {
-    let file = rules.file;
-    for k in 1..rules.heads.len() {
-        let head = rules.heads[k - 1];
-        let end = rules.heads[k];
-        if is_long(file, head, end, least) {
-            index_at(file, head, end, index, spare);
+    for k in 0..rules.count() {
+        if is_long(rules, k, least) {
+            index_at(rules.file, rules.heads[k], rules.heads[k + 1], index, spare);
         }
     }
 }

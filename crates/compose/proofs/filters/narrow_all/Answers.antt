@@ -1,24 +1,17 @@
 -- `compose::filters::narrow_all` meets its contract.
-use Rattle.std.proofs.Common.{◌∙◌, ◌+◌, ◌-◌, ◌≤◌, ◌++◌, ap, subst, sym, arith, List, ℤ, drop, get_or, length, take}
+use Rattle.std.proofs.Common.{◌∙◌, ◌+◌, ◌≤◌, ◌++◌, ap, subst, sym, arith, List, ℤ, drop, get_or, length, take}
 use mathlib.Core.List.{foldl}
 use lib.Seq.{length-take-le, take-length}
 use Rattle.spec.specs.Record.{constraint_of}
-use Rattle.registry.specs.Code.{HeadIn, group_in}
+use Rattle.registry.specs.Code.{group_in}
 use Rattle.compose.specs.Maps.{narrow_by}
 use Rattle.compose.specs.Code.{constraints_in}
 use Rattle.compose.proofs.Narrowing.{over_front, over_room}
-use Rattle.compose.proofs.Positions.{fold_end, fold_turn, head_turn_lem}
+use Rattle.compose.proofs.Positions.{fold_end, fold_turn}
 use Rattle.compose.proofs.filters.narrow_all.Goals as goal
 
 pub loop-k-init : goal.loop-k-init
 loop-k-init c = (omega arith, ap (λ (z : List ℤ). foldl (narrow_by c.args.f) z (constraints_in c.args.rules.file.now c.args.rules.heads.now)) (take-length c.args.list.now))
-
-pub narrow_by-len-requires : goal.narrow_by-len-requires
-narrow_by-len-requires c =
-    let l = c.loop-k in
-    let rules = c.args.rules in
-    let h = head_turn_lem (λ head end. HeadIn rules.file.now head end rules.fields) rules.heads.now l.k rules.inside l.auto.k c.loop-k-test.true in
-    (h.before, h.inside, h.mask)
 
 pub loop-k-preserved : goal.loop-k-preserved
 loop-k-preserved c =
@@ -28,16 +21,16 @@ loop-k-preserved c =
     let by = narrow_by c.args.f in
     let old = take l.len l.list in
     let rest = drop l.len l.list in
-    let new = foldl by old (constraint_of (group_in file (get_or heads (l.k - 1) 0) (get_or heads l.k 0))) in
+    let new = foldl by old (constraint_of (group_in file (get_or heads l.k 0) (get_or heads (l.k + 1) 0))) in
     let r = c.narrow_by-len.result in
     let e = c.narrow_by-len.ensures in (
       subst (λ (z : List ℤ). r ≤ length (z ++ rest)) (sym e.left) (over_room new old rest r e.count),
-      ap (λ (z : List ℤ). foldl by z (constraints_in file (drop (l.k + 1 - 1) heads))) (ap (λ (z : List ℤ). take r (z ++ rest)) e.left ∙ over_front new old rest r e.count)
-          ∙ sym (fold_turn by constraint_of file heads l.k l.auto.k old c.loop-k-test.true) ∙ l.invariant.1,
+      ap (λ (z : List ℤ). foldl by z (constraints_in file (drop (l.k + 1) heads))) (ap (λ (z : List ℤ). take r (z ++ rest)) e.left ∙ over_front new old rest r e.count)
+          ∙ sym (fold_turn by constraint_of file heads l.k old (omega arith)) ∙ l.invariant.1,
     )
 
 pub returns : goal.returns
 returns c =
     let l = c.loop-k in
-    let e = sym (fold_end (narrow_by c.args.f) constraint_of c.args.rules.file.now c.args.rules.heads.now l.k l.auto.k (take l.len l.list) (omega arith)) ∙ l.invariant.1 in
+    let e = sym (fold_end (narrow_by c.args.f) constraint_of c.args.rules.file.now c.args.rules.heads.now l.k (take l.len l.list) (omega arith)) ∙ l.invariant.1 in
     record { count = sym (length-take-le l.len l.list l.invariant.0) ∙ ap length e; front = e }

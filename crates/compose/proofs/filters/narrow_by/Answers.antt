@@ -1,5 +1,5 @@
 -- `compose::filters::narrow_by` meets its contract.
-use Rattle.std.proofs.Common.{◌∙◌, ◌≡◌, ap, sym, refl, add-one, rules, Bool, List, ℤ, ℕ, length}
+use Rattle.std.proofs.Common.{◌∙◌, ◌≡◌, ap, sym, refl, add-one, rules, Bool, List, ℤ, ℕ, ◌+◌, get_or, length}
 use mathlib.Core.List.{foldl}
 use Rattle.lists.specs.Lists.{filter, or_else, over}
 use Rattle.spec.specs.Code.{as_kind}
@@ -18,30 +18,30 @@ record Met (l left : List ℤ) (met : ℕ) (narrowed : List ℤ) : Type 0 where
   front : left ≡ over (filter p l) l
   is : narrowed ≡ or_else (filter p l) l
 
-met : (c : Joined-kind) → Met c.args.list.now c.match-kind.list c.match-kind.met (foldl (narrow_by c.args.f) c.args.list.now (constraint_of (group_in c.args.file.now c.args.head c.args.end)))
+met : (c : Joined-kind) → Met c.args.list.now c.match-kind.list c.match-kind.met (foldl (narrow_by c.args.f) c.args.list.now (constraint_of (group_in c.args.rules.file.now (get_or c.args.rules.heads.now c.args.k 0) (get_or c.args.rules.heads.now (c.args.k + 1) 0))))
 met c =
     let h = c.record_at-h.result in
     let run = c.part-run.result.now in
     let list = c.args.list.now in
-    let its = rw (add-one c.args.head) at c.part-run.ensures.records in
+    let its = rw (add-one (get_or c.args.rules.heads.now c.args.k 0)) at c.part-run.ensures.records in
     elim c.match-kind.branch [
       | in-Range u ↦ let p = passes (test_in (constraint range) h.p h.q (records_of run)) in record {
         p = p;
         count = u.met-is ∙ u.compact-met.ensures.count p (λ x b f e. search rules);
         front = u.list-is ∙ u.compact-met.ensures.left p (λ x b f e. search rules);
-        is = narrowed_as h c.args.file.now c.args.head c.args.end c.args.f list (constraint range) (records_of run) c.record_at-h.ensures.read (ap as_kind u.in-Range.is) refl c.if-h-f.false its;
+        is = narrowed_as h c.args.rules.file.now (get_or c.args.rules.heads.now c.args.k 0) (get_or c.args.rules.heads.now (c.args.k + 1) 0) c.args.f list (constraint range) (records_of run) c.record_at-h.ensures.read (ap as_kind u.in-Range.is) refl c.if-h-f.false its;
       }
       | in-Oneof u ↦ record {
         p = is_item run;
         count = u.met-is ∙ u.compact_items-met.ensures.count;
         front = u.list-is ∙ u.compact_items-met.ensures.left;
-        is = narrowed_as h c.args.file.now c.args.head c.args.end c.args.f list (constraint oneof) (records_of run) c.record_at-h.ensures.read (ap as_kind u.in-Oneof.is) refl c.if-h-f.false its;
+        is = narrowed_as h c.args.rules.file.now (get_or c.args.rules.heads.now c.args.k 0) (get_or c.args.rules.heads.now (c.args.k + 1) 0) c.args.f list (constraint oneof) (records_of run) c.record_at-h.ensures.read (ap as_kind u.in-Oneof.is) refl c.if-h-f.false its;
       }
       | in-Bitmask u ↦ let p = passes (test_in (constraint bitmask) h.p h.q (records_of run)) in record {
         p = p;
         count = u.met-is ∙ u.compact-met-in-Bitmask.ensures.count p (λ x b f e. search rules);
         front = u.list-is ∙ u.compact-met-in-Bitmask.ensures.left p (λ x b f e. search rules);
-        is = narrowed_as h c.args.file.now c.args.head c.args.end c.args.f list (constraint bitmask) (records_of run) c.record_at-h.ensures.read (ap as_kind u.in-Bitmask.is) refl c.if-h-f.false its;
+        is = narrowed_as h c.args.rules.file.now (get_or c.args.rules.heads.now c.args.k 0) (get_or c.args.rules.heads.now (c.args.k + 1) 0) c.args.f list (constraint bitmask) (records_of run) c.record_at-h.ensures.read (ap as_kind u.in-Bitmask.is) refl c.if-h-f.false its;
       }
     ]
 

@@ -2,7 +2,8 @@
 use mathlib.Core.Bool.{true}
 use mathlib.Core.Logic.{inl, inr}
 use mathlib.Core.Path.{◌∙◌, ◌≡◌, ap, subst, sym}
-use Prim.Native.Nat.{◌+◌, ◌-◌, ◌<◌, suc}
+use Prim.Native.Nat.{◌+◌, ◌<◌, suc}
+use native.Mathlib.Numerals.{add-one}
 use native.Mathlib.Omega.{arith}
 use lib.ListN.{get_or, length}
 use Rattle.registry.specs.Code.{group_in}
@@ -17,7 +18,7 @@ loop-k-init g c = let r = c.requires.2.2 in (c.requires.0, λ test is. picked_st
 
 -- the answer of a turn's test
 here : (g : Over) (c : After-is_chosen g) (test : KindTest) → TestIs (λ k r. goal.F-post g c.args.is_chosen k r) test
-    → has_kind test (group_in c.args.rules.file.now (get_or c.args.rules.heads.now (c.loop-k.k - 1) 0) (get_or c.args.rules.heads.now (suc (c.loop-k.k - 1)) 0)) ≡ c.is_chosen.result
+    → has_kind test (group_in c.args.rules.file.now (get_or c.args.rules.heads.now c.loop-k.k 0) (get_or c.args.rules.heads.now (suc c.loop-k.k) 0)) ≡ c.is_chosen.result
 here g c test is = sym (is _ _ c.is_chosen.ensures ∙ ap test c.kind_at.ensures.kind)
 
 -- there is room for one more
@@ -25,7 +26,7 @@ room : (g : Over) (c : After-is_chosen g) → c.is_chosen.result ≡ true → c.
 room g c e =
     let l = c.loop-k in
     let q = c.requires.2 in
-    picked_room c.args.rules.file.now c.args.rules.heads.now q.0 c.args.numbers.now c.args.before l.numbers l.count (l.k - 1) (l.invariant.1 q.0 q.1) (omega arith) (here g c q.0 q.1 ∙ e) q.2
+    picked_room c.args.rules.file.now c.args.rules.heads.now q.0 c.args.numbers.now c.args.before l.numbers l.count l.k (l.invariant.1 q.0 q.1) (omega arith) (here g c q.0 q.1 ∙ e) q.2
 
 pub bounds-numbers-count : goal.bounds-numbers-count
 bounds-numbers-count g c = let r = room g (goal.at.bounds-numbers-count g c).After-is_chosen c.if-is_chosen.true in omega arith
@@ -36,18 +37,17 @@ overflow_add-count g c = let r = room g (goal.at.overflow_add-count g c).After-i
 pub loop-k-preserved : goal.loop-k-preserved
 loop-k-preserved g c = (c.requires.0, more)
   where
-    more : (test : KindTest) → TestIs (λ k r. goal.F-post g c.args.is_chosen k r) test → Picked c.args.rules.file.now c.args.rules.heads.now test c.args.numbers.now c.args.before c.if-is_chosen.numbers c.if-is_chosen.count (c.loop-k.k + 1 - 1)
+    more : (test : KindTest) → TestIs (λ k r. goal.F-post g c.args.is_chosen k r) test → Picked c.args.rules.file.now c.args.rules.heads.now test c.args.numbers.now c.args.before c.if-is_chosen.numbers c.if-is_chosen.count (c.loop-k.k + 1)
     more test is =
         let l = c.loop-k in
         let a = (goal.at.loop-k-preserved g c).After-is_chosen in
-        let e : suc (l.k - 1) ≡ l.k + 1 - 1 = omega arith in
-        subst (Picked c.args.rules.file.now c.args.rules.heads.now test c.args.numbers.now c.args.before c.if-is_chosen.numbers c.if-is_chosen.count) e
-        (picked_turn c.args.rules.file.now c.args.rules.heads.now test c.args.numbers.now c.args.before l.numbers l.count (l.k - 1) (l.invariant.1 test is) (omega arith) c.if-is_chosen.numbers c.if-is_chosen.count c.is_chosen.result (here g a test is)
+        subst (Picked c.args.rules.file.now c.args.rules.heads.now test c.args.numbers.now c.args.before c.if-is_chosen.numbers c.if-is_chosen.count) (sym (add-one l.k))
+        (picked_turn c.args.rules.file.now c.args.rules.heads.now test c.args.numbers.now c.args.before l.numbers l.count l.k (l.invariant.1 test is) (omega arith) c.if-is_chosen.numbers c.if-is_chosen.count c.is_chosen.result (here g a test is)
         (elim c.if-is_chosen.branch [ then-is_chosen w ↦ inl (w.if-is_chosen.true, room g a w.if-is_chosen.true, w.numbers-is, w.count-is) | else-is_chosen w ↦ inr (w.if-is_chosen.false, w.numbers-is, w.count-is) ]))
 
 pub returns : goal.returns
 returns g c test is =
     let l = c.loop-k in
     let p = l.invariant.1 test is in
-    let e = picked_end c.args.rules.file.now c.args.rules.heads.now test c.args.numbers.now c.args.before l.numbers l.count (l.k - 1) p (omega arith) in
+    let e = picked_end c.args.rules.file.now c.args.rules.heads.now test c.args.numbers.now c.args.before l.numbers l.count l.k p (omega arith) in
     record { counted = e.0; chosen = e.1; kept = p.kept; kinds = p.kinds; rest = p.rest }
