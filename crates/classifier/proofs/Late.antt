@@ -1,5 +1,5 @@
--- 12 to 15, and what page answers and leaves with them and without.
-use Rattle.std.specs.Prelude.{Err, Ok, Result}
+-- 14 and 15, and what page answers and leaves with its refusals and without.
+use Rattle.std.specs.Prelude.{Err, Ok, OnErr, Result}
 use mathlib.Core.Bool.{Bool, ◌&&◌, cond, false, false≢true, not, true}
 use mathlib.Core.List.{List, []}
 use mathlib.Core.Option.{Option, get_or, none, some}
@@ -15,23 +15,26 @@ use Rattle.spec.specs.Record.{decoded}
 use Rattle.spec.specs.Refusal.{Answer, Refused, ◌▷◌, accepted, answer, file_fault, refuse, refuse_if, refused, unless_refused}
 use Rattle.spec.specs.Spec.{Spec}
 use Rattle.spec.proofs.Named.{width}
-use Rattle.compose.specs.Code.{MaybeMap, Opened, Planned, plan_in, sound_number}
+use Rattle.compose.specs.Code.{MaybeMap, Opened, Planned, as_engine, plan_in, sound_number}
+use Rattle.compose.specs.Plans as plans
+use Rattle.compose.specs.Plans.{as_plan}
 use Rattle.compose.specs.declared.places.Span.{Span}
-use Rattle.compose.specs.Maps.{childless, cyclic}
-use Rattle.compose.specs.Tuples.{Engine, exhaustive, structural, zeros}
+use Rattle.compose.specs.Tuples.{Engine, zeros}
 use Rattle.compose.specs.Walk.{Plan, plan_of}
 use Rattle.compose.proofs.Found.{no_tuple}
 use Rattle.compose.proofs.Walk.{Ready, plan_width}
 use Rattle.evaluate.specs.Code.{checks_of, unsettled}
 use Rattle.spec.specs.declared.refusal.Fault.{Fault}
+use Rattle.spec.specs.Code.{as_refused, fault_number}
 use Rattle.spec.specs.declared.refusal.Refusal.{Refusal}
+use Rattle.classifier.specs.declared.tabled.Prepared.{Prepared}
 use Rattle.classifier.specs.declared.writing.Page as code
-use Rattle.classifier.specs.Code.{OfWhole, as_page, as_paged, is_start, late_fault, late_number, refused_with, rules_of}
-use Rattle.classifier.specs.Count.{engine_fault, scratch_after, scratch_for}
+use Rattle.classifier.specs.Code.{Outcome, PageIs, as_page, is_start, writing_fault, late_number, paged, refused_whole, rules_of}
+use Rattle.classifier.specs.Count.{count_fault, scratch_after}
 use Rattle.classifier.specs.Page.{Page, Start, after_tuple, beginning, due, due_tuples, is_none, output_short, page_answer, page_fault, page_of, page_output, page_words, words_of}
-use Rattle.classifier.proofs.Answered.{fault_file, fault_room, fault_short}
+use Rattle.classifier.proofs.Answered.{fault-some, fault_file}
 use Rattle.classifier.proofs.Starts.{Wide, due-none, due_start, due_start-none}
-use Rattle.classifier.proofs.Walked.{walking_ready}
+use Rattle.classifier.proofs.Walked.{groups_opened, walking_ready}
 use Rattle.lists.specs.Lists.{over}
 use Rattle.spec.proofs.Numbered.{file_low, number_of}
 
@@ -40,25 +43,19 @@ refuse-some : (n i : ℕ) → ¬ (n ≡ 0) → refuse n i ≡ some (record { num
 refuse-some zero i h = absurd (h refl)
 refuse-some (suc n) i h = refl
 
-engine_fault_lem : (engine : Engine) (s : Spec) → engine_fault engine s ≡ refuse (sound_number engine s) 0
-unfolding engine_fault sound_number
-engine_fault_lem structural s = go (cyclic s) (childless s)
-  where
-    go : (a b : Bool) → refuse_if a 12 ▷ refuse_if b 13 ≡ refuse (cond a 12 (cond b 13 0)) 0
-    go true b = refl
-    go false true = refl
-    go false false = refl
-engine_fault_lem exhaustive s = refl
-
 module _ (engine : Engine) (s : Spec) (room : ℕ) (start : Start) where
-  -- 12 and 13
-  pub late_sound : (number : ℕ) → number ≡ sound_number engine s → ¬ (number ≡ 0) → late_fault engine s room start ≡ some (refused_with number)
-  late_sound number e h = rw (engine_fault_lem engine s, sym e, refuse-some number 0 h)
+  late_start : (p : Plan) → 0 ≡ late_number p room start → is_start p start ≡ true
+  late_start p e = go (ltb 0 (length p.lists) && ltb room (words_of (length p.lists))) (is_start p start) (sym e)
+    where
+      go : (short st : Bool) → ◌≡◌ {A = ℕ} (cond short 14 (cond st 0 15)) 0 → st ≡ true
+      go true st e = absurd (omega arith)
+      go false true e = refl
+      go false false e = absurd (omega arith)
 
-  -- 14 and 15
-  module _ (p : Plan) (is : p ≡ plan_of engine s) (sound : sound_number engine s ≡ 0) (none-due : is_none (due engine s start) ≡ not (is_start p start)) where
-    late_is : late_fault engine s room start ≡ refuse (late_number p room start) 0
-    late_is = rw (engine_fault_lem engine s, sound, none-due, wide) (go (ltb 0 (length s.fields) && ltb room (words_of (length s.fields))) (is_start p start))
+  -- 14 and 15, by the plan.
+  module _ (p : Plan) (is : p ≡ plan_of engine s) (none-due : is_none (due engine s start) ≡ not (is_start p start)) where
+    late_is : writing_fault engine s room start ≡ refuse (late_number p room start) 0
+    late_is = rw (none-due, wide) (go (ltb 0 (length s.fields) && ltb room (words_of (length s.fields))) (is_start p start))
       where
         wide : length p.lists ≡ length s.fields
         wide = ap (λ (q : Plan). length q.lists) is ∙ plan_width engine s
@@ -68,49 +65,19 @@ module _ (engine : Engine) (s : Spec) (room : ℕ) (start : Start) where
         go false true = refl
         go false false = refl
 
-    pub late_number_lem : (number : ℕ) → number ≡ late_number p room start → ¬ (number ≡ 0) → late_fault engine s room start ≡ some (refused_with number)
-    late_number_lem number e h = late_is ∙ ap (λ (k : ℕ). refuse k 0) (sym e) ∙ refuse-some number 0 h
+    pub late_outcome : {A : Type 0} (r : Result A Fault) → plans.number_of r ≡ late_number p room start → Outcome refused_whole (writing_fault engine s room start) r (λ u. is_start p start ≡ true)
+    late_outcome (Ok u) e = (late_is ∙ ap (λ (k : ℕ). refuse k 0) (sym e), late_start p e)
+    late_outcome (Err f) e = late_is ∙ ap (λ (k : ℕ). refuse k 0) (sym e) ∙ refuse-some (fault_number f) 0 (fault-some f)
 
-    pub late_none : (number : ℕ) → number ≡ late_number p room start → number ≡ 0 → late_fault engine s room start ≡ none
-    late_none number e z = late_is ∙ ap (λ (k : ℕ). refuse k 0) (sym e ∙ z)
-
-  pub late_start : (p : Plan) (number : ℕ) → number ≡ late_number p room start → number ≡ 0 → is_start p start ≡ true
-  late_start p number e z = go (ltb 0 (length p.lists) && ltb room (words_of (length p.lists))) (is_start p start) (sym e ∙ z)
+  -- The scratch is as the other refusals leave it.
+  late_clears : (f : Option Refused) (old : List ℤ) → scratch_after (f ▷ writing_fault engine s room start) old ≡ scratch_after f old
+  late_clears none old = go (output_short s room) (is_none (due engine s start))
     where
-      go : (short st : Bool) → ◌≡◌ {A = ℕ} (cond short 14 (cond st 0 15)) 0 → st ≡ true
-      go true st e = absurd (omega arith)
-      go false true e = refl
-      go false false e = absurd (omega arith)
-
-  -- The scratch is cleared in any case.
-  late_clears : (old : List ℤ) → scratch_after (late_fault engine s room start) old ≡ replicate (length old) (pos 0)
-  late_clears old = clears engine
-    where
-      low : (a b : Bool) → scratch_after (refuse_if a 14 ▷ refuse_if b 15) old ≡ replicate (length old) (pos 0)
-      low true b = refl
-      low false true = refl
-      low false false = refl
-
-      high : (a b c d : Bool) → scratch_after ((refuse_if a 12 ▷ refuse_if b 13) ▷ refuse_if c 14 ▷ refuse_if d 15) old ≡ replicate (length old) (pos 0)
-      high true b c d = refl
-      high false true c d = refl
-      high false false c d = low c d
-
-      clears : (engine : Engine) → scratch_after (engine_fault engine s ▷ refuse_if (output_short s room) 14 ▷ refuse_if (is_none (due engine s start)) 15) old ≡ replicate (length old) (pos 0)
-      clears structural = unfold engine_fault in high (cyclic s) (childless s) (output_short s room) (is_none (due structural s start))
-      clears exhaustive = unfold engine_fault in low (output_short s room) (is_none (due exhaustive s start))
-
--- ---- answers
--- Refused by f, or else a page: the answer and the output.
-abbrev pub Gives : Option Refused → Page → List ℤ → List ℤ → Answer Refused Page → List ℤ → Type 0
-Gives f page new old a out = (a ≡ answer f page) × (out ≡ unless_refused f new old)
-
-module _ (f : Option Refused) (page : Page) (new old : List ℤ) where
-  pub gives_refused : (r : Refused) → f ≡ some r → Gives f page new old (refused r) old
-  gives_refused r e = rw e (refl, refl)
-
-  pub gives_page : f ≡ none → (p : Page) (out : List ℤ) → p ≡ page → out ≡ new → Gives f page new old (accepted p) out
-  gives_page e p out ep eo = rw e (ap accepted ep, eo)
+      go : (a b : Bool) → scratch_after (refuse_if a 14 ▷ refuse_if b 15) old ≡ replicate (length old) (pos 0)
+      go true b = refl
+      go false true = refl
+      go false false = refl
+  late_clears (some r) old = refl
 
 -- ---- without fields
 pub fieldless : (engine : Engine) (s : Spec) (room : ℕ) (old : List ℤ) (start : Start) → width s ≡ 0 → is_start (plan_of engine s) start ≡ true
@@ -132,43 +99,44 @@ module _ (engine : Engine) (file heads : List ℕ) (c : ℕ) (scratch : List ℤ
       go zero e = due_start-none engine (decoded file) (opened.fields_many ∙ e) start
       go (suc n) e = due_start engine (decoded file) (ready (omega arith)) (omega (arith, opened.fields_many, planned.plan-in.places.few)) start l
 
+-- What 14 and 15 answer, by the plan.
+pub prepared_late : (p : Prepared) (room : ℕ) (start : Start) → Wide start → {A : Type 0} (r : Result A Fault) → plans.number_of r ≡ late_number (as_plan p.plan) room start
+    → Outcome refused_whole (writing_fault (as_engine p.engine) (decoded p.plan.file.now) room start) r (λ u. is_start (as_plan p.plan) start ≡ true)
+prepared_late p room start wide r e =
+    let engine = as_engine p.engine in
+    let file = p.plan.file.now in
+    late_outcome engine (decoded file) room start (as_plan p.plan) p.planned.plan-is (none-due engine file p.groups.heads.now p.groups.constraints p.plan.scratch.now p.plan.lists.now p.plan.maps.now p.plan.order.now (groups_opened p.groups file (length p.plan.order.now) p.file_is p.width_is) p.planned p.sound start wide) r e
+
 -- ---- a whole file
-module _ (engine : Engine) (room : ℕ) (file : List ℕ) (start : Start) (old scratch : List ℤ) where
+module _ (engine : Engine) (file : List ℕ) (start : Start) (old scratch : List ℤ) where
   -- The answer, the output and the scratch.
   abbrev pub Leaves : Answer Refused Page → List ℤ → List ℤ → Type 0
-  Leaves a out left = (a ≡ page_answer engine (length scratch) room file start) × (out ≡ page_output engine (length scratch) file start old) × (left ≡ scratch_after (page_fault engine (length scratch) room file start) scratch)
+  Leaves a out left = (a ≡ page_answer engine (length scratch) (length old) file start) × (out ≡ page_output engine (length scratch) file start old) × (left ≡ scratch_after (page_fault engine (length scratch) (length old) file start) scratch)
 
-  leaves_by : room ≡ length old → (f : Option Refused) → page_fault engine (length scratch) room file start ≡ f → (a : Answer Refused Page) (out left : List ℤ)
-      → Gives f (page_of (decoded file) room (due_tuples engine (decoded file) start) start) (over (page_words engine (decoded file) room (due_tuples engine (decoded file) start)) old) old a out
+  leaves_by : (f : Option Refused) → page_fault engine (length scratch) (length old) file start ≡ f → (a : Answer Refused Page) (out left : List ℤ)
+      → a ≡ answer f (page_of (decoded file) (length old) (due_tuples engine (decoded file) start) start)
+      → out ≡ unless_refused f (over (page_words engine (decoded file) (length old) (due_tuples engine (decoded file) start)) old) old
       → left ≡ scratch_after f scratch → Leaves a out left
   unfolding page_answer page_output
-  leaves_by er f e a out left g l = (
-    g.0 ∙ ap (λ (o : Option Refused). answer o (page_of (decoded file) room (due_tuples engine (decoded file) start) start)) (sym e),
-    g.1 ∙ ap (λ (o : Option Refused). unless_refused o (over (page_words engine (decoded file) room (due_tuples engine (decoded file) start)) old) old) (sym e) ∙ rw er refl,
-    l ∙ ap (λ (o : Option Refused). scratch_after o scratch) (sym e),
+  leaves_by f e a out left ea eo el = (
+    ea ∙ ap (λ (o : Option Refused). answer o (page_of (decoded file) (length old) (due_tuples engine (decoded file) start) start)) (sym e),
+    eo ∙ ap (λ (o : Option Refused). unless_refused o (over (page_words engine (decoded file) (length old) (due_tuples engine (decoded file) start)) old) old) (sym e),
+    el ∙ ap (λ (o : Option Refused). scratch_after o scratch) (sym e),
   )
 
   -- 1 to 10
-  pub leaves_file : room ≡ length old → (r : Refused) → file_fault file ≡ some r → Leaves (refused r) old scratch
+  pub leaves_file : (r : Refused) → file_fault file ≡ some r → Leaves (refused r) old scratch
   unfolding page_fault
-  leaves_file er r e =
+  leaves_file r e =
       let low : r.number ≤ 11 = let l = subst (λ (o : Option Refused). number_of o ≤ 10) e (file_low file) in omega arith in
-      leaves_by er (some r) (rw (fault_file engine (length scratch) file r e)) (refused r) old scratch (refl, refl) (ap (λ (b : Bool). cond b scratch (replicate (length scratch) (pos 0))) (sym (leb_yes r.number 11 low)))
+      leaves_by (some r) (rw (fault_file engine (length scratch) file r e)) (refused r) old scratch refl refl (ap (λ (b : Bool). cond b scratch (replicate (length scratch) (pos 0))) (sym (leb_yes r.number 11 low)))
 
-  -- 11
-  pub leaves_short : room ≡ length old → file_fault file ≡ none → length scratch < scratch_for (decoded file) → Leaves (refused (refused_with 11)) old scratch
-  unfolding page_fault
-  leaves_short er good short = leaves_by er (some (refused_with 11)) (rw (fault_short engine (length scratch) file good short)) (refused (refused_with 11)) old scratch (refl, refl) refl
+  -- The others, or the page, by what writing gave.
+  module _ (out left : List ℤ) (cleared : left ≡ scratch_after (count_fault engine (length scratch) file) scratch) where
+    cleared_late : left ≡ scratch_after (count_fault engine (length scratch) file ▷ writing_fault engine (decoded file) (length old) start) scratch
+    cleared_late = cleared ∙ sym (late_clears engine (decoded file) (length old) start (count_fault engine (length scratch) file) scratch)
 
-  -- 12 to 15, or the page
-  pub leaves_late : room ≡ length old → file_fault file ≡ none → scratch_for (decoded file) ≤ length scratch → (a : Answer Refused Page) (out left : List ℤ)
-      → Gives (late_fault engine (decoded file) room start) (page_of (decoded file) room (due_tuples engine (decoded file) start) start) (over (page_words engine (decoded file) room (due_tuples engine (decoded file) start)) old) old a out
-      → left ≡ replicate (length scratch) (pos 0) → Leaves a out left
-  unfolding page_fault
-  leaves_late er good fits a out left g l = leaves_by er (late_fault engine (decoded file) room start) (rw (fault_room engine (length scratch) file good fits)) a out left g (l ∙ sym (late_clears engine (decoded file) room start scratch))
-
--- ---- a fault of the whole
-pub paged_whole : (t : Result code.Page Fault) (r : Result code.Page Refusal) → OfWhole t r → as_page r ≡ as_paged t
-paged_whole (Ok x) r e = ap as_page e
-paged_whole (Err f) (Ok x) e = absurd e
-paged_whole (Err f) (Err q) e = ap refused e
+    pub leaves_outcome : (r : Result code.Page Refusal) → Outcome as_refused (count_fault engine (length scratch) file ▷ writing_fault engine (decoded file) (length old) start) r (λ p. PageIs engine file start old p out) → OnErr r (out ≡ old) → Leaves (as_page r) out left
+    unfolding page_fault
+    leaves_outcome (Ok p) o k = leaves_by none o.0 (accepted (paged p)) out left (ap accepted o.1.answer) o.1.out (cleared_late ∙ ap (λ (f : Option Refused). scratch_after f scratch) o.0)
+    leaves_outcome (Err r) o k = leaves_by (some (as_refused r)) o (refused (as_refused r)) out left refl k (cleared_late ∙ ap (λ (f : Option Refused). scratch_after f scratch) o)

@@ -1,4 +1,3 @@
 pub mod Count
 pub mod Page
 pub mod Code
-pub mod Props

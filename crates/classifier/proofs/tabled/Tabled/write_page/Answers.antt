@@ -9,22 +9,23 @@ use Rattle.compose.specs.Walk.{has_tuple_after, tuple_after}
 use Rattle.compose.proofs.Stepping.{pick_in, picked_front, picked_long, stands_picked}
 use Rattle.compose.proofs.Walk.{from_tuple}
 use Rattle.evaluate.specs.Verdict.{evaluate}
-use Rattle.classifier.specs.Code.{as_start, forced_row, rules_of}
+use Rattle.classifier.specs.Code.{EnablesAre, as_start, forced_row, rules_of}
 use Rattle.classifier.specs.Count.{verdict_of}
 use Rattle.classifier.specs.Page.{due_tuples, start_tuple, words, words_of}
 use Rattle.classifier.proofs.Going.{Begun, going_begun, going_due, going_last, going_next, going_over, going_padded, going_turn}
 use Rattle.classifier.proofs.Paging.{Writing, next_fewer, page_finished, page_stopped, writing_none, writing_turn, writing_wide}
 use Rattle.classifier.proofs.Starts.{Wide}
 use Rattle.classifier.proofs.Turning.{turn_row, turn_settled, words_in, words_long, words_verdict}
-use Rattle.classifier.proofs.Walked.{enables_lie, rules_lie, walking_walks, walking_wide}
+use Rattle.classifier.proofs.Walked.{enables_given, enables_lie, rules_given, rules_long, walking_walks, walking_wide}
 use Rattle.classifier.proofs.tabled.Tabled.write_page.Goals.{After-enables_of-many, After-write_verdict, At-loop-out, In-Some}
 use Rattle.classifier.proofs.tabled.Tabled.write_page.Goals as goal
 
 pub enables_of-many-requires : goal.enables_of-many-requires
 enables_of-many-requires c =
     let self = c.args.self.now in
-    let l = rules_lie self.walk.plan.file.now self.heads.now self.checks.heads.now (length self.walk.plan.order.now) self.constraints self.checks_are.heads_are self.walking.opened self.walking.planned.plan-in.places.few in
-    (l.0, l.3, refl)
+    let is = rules_given self.groups c.rules.result self.walk.plan.file.now (length self.walk.plan.order.now) self.file_is self.width_is c.rules.ensures.file c.rules.ensures.heads in
+    let l = rules_long self.walk.plan.file.now self.groups.heads.now c.rules.result.heads.now (length self.walk.plan.order.now) self.groups.constraints is.heads_are self.walking.opened in
+    (l.1, refl)
 
 -- the enable records
 module _ (c : After-enables_of-many) where
@@ -35,19 +36,25 @@ module _ (c : After-enables_of-many) where
   n = length c.args.self.now.walk.plan.order.now
 
   abbrev asked : List ℕ
-  asked = rules_of c.args.self.now.heads.now n c.args.self.now.constraints
+  asked = rules_of c.args.self.now.groups.heads.now n c.args.self.now.groups.constraints
 
   abbrev numbers : List ℕ
   numbers = take c.enables_of-many.result c.enables_of-many.new.numbers
 
+  given : EnablesAre (as_engine c.args.self.now.engine) file asked numbers
+  given =
+      let self = c.args.self.now in
+      let is = rules_given self.groups c.rules.result file n self.file_is self.width_is c.rules.ensures.file c.rules.ensures.heads in
+      enables_given (as_engine self.engine) file asked numbers n c.rules.result is c.enables_of-many.ensures.chosen c.enables_of-many.ensures.kinds.1
+
   chosen : chosen_in file asked numbers ≡ enables_of (as_engine c.args.self.now.engine) (constraints_in file asked)
-  chosen = subst (λ (r : List ℕ). chosen_in file r numbers ≡ enables_of (as_engine c.args.self.now.engine) (constraints_in file r)) c.args.self.now.checks_are.heads_are c.enables_of-many.ensures.chosen
+  chosen = given.are
 
   kinds : ChosenFrom file asked 0 is_enabling numbers
-  kinds = subst (λ (r : List ℕ). ChosenFrom file r 0 is_enabling numbers) c.args.self.now.checks_are.heads_are c.enables_of-many.ensures.kinds.1
+  kinds = given.kinds
 
   lie : EnablesIn file asked numbers n
-  lie = enables_lie file c.args.self.now.heads.now n c.args.self.now.constraints numbers c.args.self.now.walking.opened kinds
+  lie = enables_lie file c.args.self.now.groups.heads.now n c.args.self.now.groups.constraints numbers c.args.self.now.walking.opened kinds
 
 pub first_from-requires : goal.first_from-requires
 first_from-requires c = (walking_walks c.args.self.now.walking, c.requires)
@@ -95,17 +102,17 @@ loop-out-init c =
 -- what is written so far, in the definition's words
 module _ (c : At-loop-out) where
   written : (at count : ℕ) (last : List ℕ) (out : List ℤ) (ts : List (List ℕ)) (numbers : List ℕ)
-      → chosen_in c.args.self.now.walk.plan.file.now (rules_of c.args.self.now.heads.now (length c.args.self.now.walk.plan.order.now) c.args.self.now.constraints) numbers ≡ enables_of (as_engine c.args.self.now.engine) (constraints_in c.args.self.now.walk.plan.file.now (rules_of c.args.self.now.heads.now (length c.args.self.now.walk.plan.order.now) c.args.self.now.constraints))
-      → ChosenFrom c.args.self.now.walk.plan.file.now (rules_of c.args.self.now.heads.now (length c.args.self.now.walk.plan.order.now) c.args.self.now.constraints) 0 is_enabling numbers
+      → chosen_in c.args.self.now.walk.plan.file.now (rules_of c.args.self.now.groups.heads.now (length c.args.self.now.walk.plan.order.now) c.args.self.now.groups.constraints) numbers ≡ enables_of (as_engine c.args.self.now.engine) (constraints_in c.args.self.now.walk.plan.file.now (rules_of c.args.self.now.groups.heads.now (length c.args.self.now.walk.plan.order.now) c.args.self.now.groups.constraints))
+      → ChosenFrom c.args.self.now.walk.plan.file.now (rules_of c.args.self.now.groups.heads.now (length c.args.self.now.walk.plan.order.now) c.args.self.now.groups.constraints) 0 is_enabling numbers
       → due_tuples (as_engine c.args.self.now.engine) (decoded c.args.self.now.walk.plan.file.now) (as_start c.args.start) ≡ ts
-      → Writing (words_in c.args.self.now.walk.plan.file.now c.args.self.now.heads.now (length c.args.self.now.walk.plan.order.now) c.args.self.now.constraints (as_plan c.args.self.now.walk.plan).lists numbers) (length c.args.self.now.walk.plan.order.now + 4) c.args.out.now ts c.start_tuple-last.result at count last out
+      → Writing (words_in c.args.self.now.walk.plan.file.now c.args.self.now.groups.heads.now (length c.args.self.now.walk.plan.order.now) c.args.self.now.groups.constraints (as_plan c.args.self.now.walk.plan).lists numbers) (length c.args.self.now.walk.plan.order.now + 4) c.args.out.now ts c.start_tuple-last.result at count last out
       → Writing (λ t. words (verdict_of (as_engine c.args.self.now.engine) (decoded c.args.self.now.walk.plan.file.now) t)) (length c.args.self.now.walk.plan.order.now + 4) c.args.out.now (due_tuples (as_engine c.args.self.now.engine) (decoded c.args.self.now.walk.plan.file.now) (as_start c.args.start)) (start_tuple (as_start c.args.start)) at count last out
   written at count last out ts numbers ch ki e st =
       let k = length c.args.self.now.walk.plan.order.now + 4 in
       let old = c.args.out.now in
       subst (λ (w : List ℕ → List ℤ). Writing w k old (due_tuples (as_engine c.args.self.now.engine) (decoded c.args.self.now.walk.plan.file.now) (as_start c.args.start)) (start_tuple (as_start c.args.start)) at count last out) (words_verdict c.args.self.now.walking numbers ch ki)
-      (subst (λ (ts : List (List ℕ)). Writing (words_in c.args.self.now.walk.plan.file.now c.args.self.now.heads.now (length c.args.self.now.walk.plan.order.now) c.args.self.now.constraints (as_plan c.args.self.now.walk.plan).lists numbers) k old ts (start_tuple (as_start c.args.start)) at count last out) (sym e)
-      (subst (λ (t : List ℕ). Writing (words_in c.args.self.now.walk.plan.file.now c.args.self.now.heads.now (length c.args.self.now.walk.plan.order.now) c.args.self.now.constraints (as_plan c.args.self.now.walk.plan).lists numbers) k old ts t at count last out) c.start_tuple-last.ensures st))
+      (subst (λ (ts : List (List ℕ)). Writing (words_in c.args.self.now.walk.plan.file.now c.args.self.now.groups.heads.now (length c.args.self.now.walk.plan.order.now) c.args.self.now.groups.constraints (as_plan c.args.self.now.walk.plan).lists numbers) k old ts (start_tuple (as_start c.args.start)) at count last out) (sym e)
+      (subst (λ (t : List ℕ). Writing (words_in c.args.self.now.walk.plan.file.now c.args.self.now.groups.heads.now (length c.args.self.now.walk.plan.order.now) c.args.self.now.groups.constraints (as_plan c.args.self.now.walk.plan).lists numbers) k old ts t at count last out) c.start_tuple-last.ensures st))
 
   wide_out : length c.loop-out.out ≡ length c.args.out.now
   wide_out = writing_wide _ _ _ _ _ c.loop-out.at c.loop-out.count c.loop-out.last c.loop-out.out c.loop-out.invariant.0
@@ -142,10 +149,10 @@ write_verdict-requires-clause-row c =
 
 -- one more is written
 turned : (c : After-write_verdict)
-    → chosen_in c.args.self.now.walk.plan.file.now (rules_of c.args.self.now.heads.now (length c.args.self.now.walk.plan.order.now) c.args.self.now.constraints) (take c.enables_of-many.result c.enables_of-many.new.numbers) ≡ enables_of (as_engine c.args.self.now.engine) (constraints_in c.args.self.now.walk.plan.file.now (rules_of c.args.self.now.heads.now (length c.args.self.now.walk.plan.order.now) c.args.self.now.constraints))
-    → ChosenFrom c.args.self.now.walk.plan.file.now (rules_of c.args.self.now.heads.now (length c.args.self.now.walk.plan.order.now) c.args.self.now.constraints) 0 is_enabling (take c.enables_of-many.result c.enables_of-many.new.numbers)
+    → chosen_in c.args.self.now.walk.plan.file.now (rules_of c.args.self.now.groups.heads.now (length c.args.self.now.walk.plan.order.now) c.args.self.now.groups.constraints) (take c.enables_of-many.result c.enables_of-many.new.numbers) ≡ enables_of (as_engine c.args.self.now.engine) (constraints_in c.args.self.now.walk.plan.file.now (rules_of c.args.self.now.groups.heads.now (length c.args.self.now.walk.plan.order.now) c.args.self.now.groups.constraints))
+    → ChosenFrom c.args.self.now.walk.plan.file.now (rules_of c.args.self.now.groups.heads.now (length c.args.self.now.walk.plan.order.now) c.args.self.now.groups.constraints) 0 is_enabling (take c.enables_of-many.result c.enables_of-many.new.numbers)
     → length c.loop-out.out ≡ length c.args.out.now
-    → Writing (words_in c.args.self.now.walk.plan.file.now c.args.self.now.heads.now (length c.args.self.now.walk.plan.order.now) c.args.self.now.constraints (as_plan c.args.self.now.walk.plan).lists (take c.enables_of-many.result c.enables_of-many.new.numbers)) (length c.args.self.now.walk.plan.order.now + 4) c.args.out.now
+    → Writing (words_in c.args.self.now.walk.plan.file.now c.args.self.now.groups.heads.now (length c.args.self.now.walk.plan.order.now) c.args.self.now.groups.constraints (as_plan c.args.self.now.walk.plan).lists (take c.enables_of-many.result c.enables_of-many.new.numbers)) (length c.args.self.now.walk.plan.order.now + 4) c.args.out.now
     (from_tuple (as_plan c.args.self.now.walk.plan) (take (length c.args.self.now.walk.plan.order.now) c.in-Some.t)) c.start_tuple-last.result (c.loop-out.at + (length c.args.self.now.walk.plan.order.now + 4)) (c.loop-out.count + 1) c.loop-out.tuple
     (put_mid c.loop-out.at (c.loop-out.at + (length c.args.self.now.walk.plan.order.now + 4) - c.loop-out.at) c.loop-out.out c.write_verdict.new.out)
 turned c ch ki wide =
@@ -155,10 +162,10 @@ turned c ch ki wide =
     let w = self.walking in
     let enables = take c.enables_of-many.result c.enables_of-many.new.numbers in
     let begun = l.invariant.1.begun in
-    let new = c.write_verdict.ensures ∙ ap (λ (row : List ℤ). words (evaluate (decoded self.walk.plan.file.now) (forced_row self.walk.plan.file.now (rules_of self.heads.now m self.constraints) enables row))) l.invariant.1.stands.row_is in
+    let new = c.write_verdict.ensures ∙ ap (λ (row : List ℤ). words (evaluate (decoded self.walk.plan.file.now) (forced_row self.walk.plan.file.now (rules_of self.groups.heads.now m self.groups.constraints) enables row))) l.invariant.1.stands.row_is in
     let room : l.at + (m + 4) ≤ length c.args.out.now = omega (arith, c.if-out-at.false, wide, l.invariant.0.within) in
     let st = writing_turn _ _ _ _ _ l.at l.count l.last l.out l.invariant.0 (take m l.tuple) _ c.write_verdict.new.out (going_next w _ l.count l.tuple l.raw l.invariant.1) new (words_long w enables ch ki l.tuple (take m l.raw) begun l.invariant.1.stands) (omega arith) room in
-    subst (λ (t : List ℕ). Writing (words_in self.walk.plan.file.now self.heads.now m self.constraints (as_plan self.walk.plan).lists enables) (m + 4) c.args.out.now (from_tuple (as_plan self.walk.plan) (take m c.in-Some.t)) c.start_tuple-last.result (l.at + (m + 4)) (l.count + 1) t (put_mid l.at (l.at + (m + 4) - l.at) l.out c.write_verdict.new.out))
+    subst (λ (t : List ℕ). Writing (words_in self.walk.plan.file.now self.groups.heads.now m self.groups.constraints (as_plan self.walk.plan).lists enables) (m + 4) c.args.out.now (from_tuple (as_plan self.walk.plan) (take m c.in-Some.t)) c.start_tuple-last.result (l.at + (m + 4)) (l.count + 1) t (put_mid l.at (l.at + (m + 4) - l.at) l.out c.write_verdict.new.out))
     (sym (going_padded w l.tuple begun)) st
 
 pub returns-then-not-step : goal.returns-then-not-step

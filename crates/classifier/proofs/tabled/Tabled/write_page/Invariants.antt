@@ -12,7 +12,7 @@ invariant-loop-out l =
     let plan = l.self.walk.plan in
     let n = length plan.order.now in
     let due = from_tuple (as_plan plan) (take n l.initial.tuple) in
-    Writing (words_in plan.file.now l.self.heads.now n l.self.constraints (as_plan plan).lists (take l.many l.numbers)) (n + 4) l.fn.out due l.initial.last l.at l.count l.last l.out
+    Writing (words_in plan.file.now l.self.groups.heads.now n l.self.groups.constraints (as_plan plan).lists (take l.many l.numbers)) (n + 4) l.fn.out due l.initial.last l.at l.count l.last l.out
     × Going (as_plan plan) n due l.count l.tuple l.raw
 
 abbrev pub decreases-loop-out : goal.decreases-loop-out

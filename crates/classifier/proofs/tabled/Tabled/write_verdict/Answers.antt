@@ -23,15 +23,15 @@ module _ (c : After-judge-place) where
   file = c.args.self.now.walk.plan.file.now
 
   abbrev rules : List ℕ
-  rules = rules_of c.args.self.now.heads.now (length c.args.self.now.walk.plan.order.now) c.args.self.now.constraints
+  rules = rules_of c.args.self.now.groups.heads.now (length c.args.self.now.walk.plan.order.now) c.args.self.now.groups.constraints
 
   abbrev raw : List ℤ
   raw = c.args.raw.now
 
-  judging : JudgingIn file (take (suc (length c.args.self.now.walk.plan.order.now)) c.args.self.now.heads.now) rules c.args.enables.now c.args.self.now.checks.chosen.now c.args.self.now.due.chosen.now (length raw)
+  judging : JudgingIn file (take (suc (length c.args.self.now.walk.plan.order.now)) c.args.self.now.groups.heads.now) rules c.args.enables.now c.args.self.now.checks.chosen.now c.args.self.now.due.chosen.now (length raw)
   judging =
       let self = c.args.self.now in
-      subst (JudgingIn file (take (suc (length self.walk.plan.order.now)) self.heads.now) rules c.args.enables.now self.checks.chosen.now self.due.chosen.now) (sym c.requires.wide.0) (walking_judges self.walking c.args.enables.now c.requires.enables)
+      subst (JudgingIn file (take (suc (length self.walk.plan.order.now)) self.groups.heads.now) rules c.args.enables.now self.checks.chosen.now self.due.chosen.now) (sym c.requires.wide.0) (walking_judges self.walking c.args.enables.now c.requires.enables)
 
   small : c.judge-place.result < 2 ^ 63
   small = omega (arith, c.judge-place.ensures.place, place_few raw judging (forced_row file rules c.args.enables.now raw))
