@@ -31,10 +31,6 @@ pub behind-none : (k : ℕ) → k ≡ behind 0 k
 behind-none zero = refl
 behind-none (suc k) = sym (zero-add (suc k))
 
-pub behind-some : (n k : ℕ) → ¬ (k ≡ 0) → n + k ≡ behind n k
-behind-some n zero h = absurd (h refl)
-behind-some n (suc k) h = refl
-
 pub behind_more : (f k : ℕ) → behind f (further k) ≡ behind (f + 1) k
 behind_more f zero = refl
 behind_more f (suc k) = omega arith
@@ -69,9 +65,6 @@ module _ (file fields : List ℕ) (row : List ℤ) (f : ℕ) (inside : FieldsIn 
 
     pub fields-passed : first_false (field_checks (fields_in file (drop f fields)) (drop f row)) ≡ 0 → (here ≡ true) × (after ≡ 0)
     fields-passed e = placed-none here after (sym fields_turn ∙ e)
-
-  pub fields_end : length row ≤ f → behind f (first_false (field_checks (fields_in file (drop f fields)) (drop f row))) ≡ 0
-  fields_end l = ap (λ (gs : List Group). behind f (first_false (field_checks (concat_map field_of gs) (drop f row)))) (groups_end file fields f (omega arith))
 
 -- ---- values of the lists that an engine goes through pass their field checks
 picked_allowed : (lists : ℕ → FieldSpec → List ℤ) → ((f : ℕ) (d : FieldSpec) → All (λ v. allows d v ≡ true) (lists f d))

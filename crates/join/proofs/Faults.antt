@@ -79,10 +79,6 @@ pub unrefused : (n : ℕ) → none ≡ of joined (refuse n 0) → n ≡ 0
 unrefused zero e = refl
 unrefused (suc n) e = cc
 
-pub refuse-number : (n : ℕ) → ¬ (n ≡ 0) → of joined (refuse n 0) ≡ some (refusal_of joined n 0)
-refuse-number zero h = absurd (h refl)
-refuse-number (suc n) h = refl
-
 -- Number 0: few fields, and room.
 pub number-zero : (fields constraints len all room : ℕ) → joined_number fields constraints len all room ≡ 0 → (fields ≤ 32) × (len ≤ room)
 number-zero fields constraints len all room e =

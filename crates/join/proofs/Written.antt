@@ -25,30 +25,6 @@ put_mid_lem at k m out ys o y =
     let front : length (take at out ++ ys) ≡ at + m = omega (arith, length-append (take at out) ys, length-take-le at out o) in
     ap (take (at + m)) (sym (append_assoc (take at out) ys (drop k (drop at out)))) ∙ take_at (take at out ++ ys) (drop k (drop at out)) (at + m) front
 
-module _ (n : ℕ) (out ys piece : List ℕ) (o : length out ≡ n) (p : ys ≡ piece) where
-  -- The first part.
-  pub put_front : (m : ℕ) → m ≤ n → length ys ≡ length (take m out) → (take m (ys ++ drop m out) ≡ piece) × (length (ys ++ drop m out) ≡ n)
-  put_front m h k = (take_at ys (drop m out) m (k ∙ length-take-le m out (omega arith)) ∙ p, length_front out ys m k ∙ o)
-
-  -- A part behind what is done.
-  pub put_behind : (at m : ℕ) (done : List ℕ) → take at out ≡ done → at + m ≤ n → length ys ≡ length (mid_of at (at + m - at) out)
-      → (take (at + m) (put_mid at (at + m - at) out ys) ≡ done ++ piece) × (length (put_mid at (at + m - at) out ys) ≡ n)
-  put_behind at m done t h k =
-      let long : length ys ≡ m = k ∙ mid_len at (at + m) out (omega arith) ∙ omega arith in
-      (put_mid_lem at (at + m - at) m out ys (omega arith) long ∙ ap₂ ◌++◌ t p, same_len_mid at (at + m - at) out ys k ∙ o)
-
-  -- The last part.
-  pub put_last : (at : ℕ) (done : List ℕ) → take at out ≡ done → at ≤ n → length ys ≡ length (mid_of at (length out - at) out) → put_mid at (length out - at) out ys ≡ done ++ piece
-  put_last at done t h k =
-      let long : length ys ≡ n - at = k ∙ mid_len at (length out) out (omega arith) ∙ omega arith in
-      let all = same_len_mid at (length out - at) out ys k in
-      sym (take_all (at + (n - at)) (put_mid at (length out - at) out ys) (omega arith)) ∙ put_mid_lem at (length out - at) (n - at) out ys (omega arith) long ∙ ap₂ ◌++◌ t p
-
--- A sum is zeros and its kind.
-pub sum_set : set (replicate 32 0) 0 30 ≡ sum_bytes
-unfolding sum_bytes
-sum_set = refl
-
 -- ---- one record
 -- The bytes copied with their two numbers moved.
 pub record_moved : (bytes : List ℕ) (row : code.Row) (n x y : ℕ) (out : List ℕ) → as_row row ≡ row_of (kind_of (get_or bytes 0 0)) (get_or bytes 2 0)
@@ -110,27 +86,3 @@ total_both (suc n) (suc m) x y h k = refl
 
 pub totals_times : (x y : ℕ) → x ≤ 1000000000 → y ≤ 1000000000 → x * y ≤ 1000000000 * 1000000000
 totals_times x y h k = mul-le-mul h k
-
--- ---- the number of a joined file's refusal
-module _ (fields constraints len total room : ℕ) where
-  pub number-fields : 32 < fields → 5 ≡ joined_number fields constraints len total room
-  number-fields a = rw (ltb_yes 32 fields a)
-
-  module _ (a : fields ≤ 32) where
-    pub number-constraints : 256 < constraints → 5 ≡ joined_number fields constraints len total room
-    number-constraints b = rw (ltb_no 32 fields a, ltb_yes 256 constraints b)
-
-    module _ (b : constraints ≤ 256) where
-      pub number-long : 65536 < len → 1 ≡ joined_number fields constraints len total room
-      number-long d = rw (ltb_no 32 fields a, ltb_no 256 constraints b, ltb_yes 65536 len d)
-
-      module _ (d : len ≤ 65536) where
-        pub number-total : 1000000000 < total → 10 ≡ joined_number fields constraints len total room
-        number-total e = rw (ltb_no 32 fields a, ltb_no 256 constraints b, ltb_no 65536 len d, ltb_yes 1000000000 total e)
-
-        module _ (e : total ≤ 1000000000) where
-          pub number_room : room < len → 14 ≡ joined_number fields constraints len total room
-          number_room f = rw (ltb_no 32 fields a, ltb_no 256 constraints b, ltb_no 65536 len d, ltb_no 1000000000 total e, ltb_yes room len f)
-
-          pub number-none : len ≤ room → 0 ≡ joined_number fields constraints len total room
-          number-none f = rw (ltb_no 32 fields a, ltb_no 256 constraints b, ltb_no 65536 len d, ltb_no 1000000000 total e, ltb_no room len f)

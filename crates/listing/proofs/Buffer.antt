@@ -23,20 +23,6 @@ pub put_after : (l₀ l₁ l₂ : List ℕ) (at mid : ℕ) (a b : List ℕ) → 
 put_after l₀ l₁ l₂ at mid a b first place second =
     second ∙ ap (λ (l : List ℕ). sets l mid b) first ∙ ap (λ (k : ℕ). sets (sets l₀ at a) k b) place ∙ sets_append l₀ at a b
 
--- One more byte of a word: what is left to put.
-pub sets_more : (l : List ℕ) (at i : ℕ) (word : List ℕ) → i < length word
-    → sets (set l (at + i) (get_or word i 0)) (at + (i + 1)) (drop (i + 1) word) ≡ sets l (at + i) (drop i word)
-sets_more l at i word h =
-    let place : at + (i + 1) ≡ suc (at + i) = omega arith in
-    let next : i + 1 ≡ suc i = omega arith in
-    ap (λ (k : ℕ). sets (set l (at + i) (get_or word i 0)) k (drop (i + 1) word)) place
-    ∙ ap (λ (k : ℕ). sets (set l (at + i) (get_or word i 0)) (suc (at + i)) (drop k word)) next
-    ∙ sym (ap (λ (w : List ℕ). sets l (at + i) w) (drop-cons word i 0 h))
-
--- Nothing is left to put.
-pub sets_end : (l : List ℕ) (at i : ℕ) (word : List ℕ) → length word ≤ i → sets l (at + i) (drop i word) ≡ l
-sets_end l at i word h = ap (λ (w : List ℕ). sets l (at + i) w) (drop_of_length-le word h)
-
 -- A text put at the start stands there.
 pub put_first : (l₀ l₁ text : List ℕ) (n : ℕ) → l₁ ≡ sets l₀ 0 text → n ≡ 0 + length text → n ≤ length l₀ → (IsPrefixLen n l₁) × (take n l₁ ≡ text)
 put_first l₀ l₁ text n put end room =

@@ -2,7 +2,7 @@
 use mathlib.Core.Bool.{Bool, cond, false, true}
 use mathlib.Core.List.{List, [], ◌∷◌, map}
 use mathlib.Core.Option.{Option, none, some}
-use mathlib.Core.Path.{◌∙◌, ◌≡◌, ap, refl, subst, sym}
+use mathlib.Core.Path.{◌∙◌, ◌≡◌, ap, refl, subst}
 use Prim.Native.Nat.{◌%◌, ◌*◌, ◌+◌, ◌/◌, ◌<◌, ◌^◌, ◌≤◌, suc, zero, ℕ}
 use native.Mathlib.Numerals.{add-one}
 use native.Mathlib.Omega.{arith}
@@ -20,12 +20,6 @@ use Rattle.registry.specs.Project.{fitting}
 use Rattle.registry.proofs.Packing.{digits_from}
 
 -- ---- words
-pub word_yes : (n : ℕ) → n < 2 ^ 63 → word_by true n ≡ word_of n
-word_yes n h = ap (λ (b : Bool). word_by b n) (sym (ltb_yes n (2 ^ 63) h))
-
-pub word_no : (n : ℕ) → 2 ^ 63 ≤ n → word_by false n ≡ word_of n
-word_no n h = ap (λ (b : Bool). word_by b n) (sym (ltb_no n (2 ^ 63) h))
-
 pub fits_yes : (n m : ℕ) → word_of n ≡ Some m → (n < 2 ^ 63) × (m ≡ n)
 fits_yes n m = go (ltb n (2 ^ 63)) refl
   where

@@ -1,15 +1,15 @@
 -- Values on the scale: their sums and differences stay within 64 bits.
-use mathlib.Core.Bool.{Bool, cond, false, true, true≢false}
+use mathlib.Core.Bool.{false, true, true≢false}
 use mathlib.Core.List.{List}
-use mathlib.Core.Path.{◌∙◌, ◌≡◌, ap, refl, subst, sym}
-use Prim.Native.Nat.{◌*◌, ◌+◌, ◌-◌, ◌<◌, ◌^◌, ◌≤◌, suc, zero, ℕ}
+use mathlib.Core.Path.{◌∙◌, ◌≡◌, ap, sym}
+use Prim.Native.Nat.{◌*◌, ◌+◌, ◌<◌, ◌^◌, ◌≤◌, suc, zero, ℕ}
 use native.Mathlib.Numerals.{add-one}
 use native.Mathlib.Omega.{arith}
 use lib.Dec.{T}
-use lib.IntN.{+ℤ_assoc, ◌+ℤ◌, ◌-ℤ◌, nat_abs, negsuc, pos, ℤ}
+use lib.IntN.{+ℤ_assoc, ◌+ℤ◌, nat_abs, negsuc, pos, ℤ}
 use lib.ListN.{drop, get_or, length}
 use lib.Seq.{drop-cons}
-use lib.Signed.{lt_z, non_neg}
+use lib.Signed.{non_neg}
 use mir.Syntax.{w64}
 use mir.Val.{Fits, SFits}
 use mir.ValLaws.{to_z-of_z}
@@ -18,7 +18,6 @@ use Rattle.spec.proofs.Multiples.{held, scale_bound}
 use Rattle.spec.specs.Refusal.{on_scale}
 use Rattle.lists.specs.Integers.{sum_z}
 use Rattle.lists.proofs.Signed.{apart_bound}
-use Rattle.lists.proofs.Tests.{ltb_no, yes_lt}
 use Rattle.spec.specs.Refusal.{negative}
 
 pub small_fits : (v : ℤ) → nat_abs v < 2 ^ 63 → SFits w64 v
@@ -28,34 +27,6 @@ small_fits (negsuc n) h = record { sfits = omega arith }
 pub natural_fits : (v : ℤ) → negative v ≡ false → SFits w64 v → T (non_neg v) × Fits w64 (nat_abs v)
 natural_fits (pos n) e f = (tt, omega arith)
 natural_fits (negsuc n) e f = absurd (true≢false e)
-
--- ---- a number taken apart at 0
--- what -1 - v is for a v below 0
-pub record Below (v rest : ℤ) : Type 0 where
-  pub fits : SFits w64 rest
-  pub cast : T (non_neg rest) × Fits w64 (nat_abs rest)
-  pub small : nat_abs rest + 1 ≤ 9223372036854775808
-  pub whole : v ≡ negsuc (nat_abs rest)
-
-minus_one : (n : ℕ) → negsuc 0 -ℤ negsuc n ≡ pos n
-minus_one n = ap (λ (t : Bool). cond t (negsuc (1 - suc (suc n))) (pos (suc n - 1))) (ltb_no (suc n) 1 (omega arith)) ∙ ap pos (let e : suc n - 1 ≡ n = omega arith in e)
-
-pub below_of : (v : ℤ) → lt_z v (pos 0) ≡ true → SFits w64 v → Below v (negsuc 0 -ℤ v)
-below_of (pos n) e f = let h = yes_lt n 0 e in absurd (omega arith)
-below_of (negsuc n) e f =
-    let h = f.sfits in
-    let fits : SFits w64 (pos n) = record { sfits = omega arith } in
-    subst (λ (z : ℤ). Below (negsuc n) z) (sym (minus_one n)) record { fits = fits; cast = natural_fits (pos n) refl fits; small = omega arith; whole = refl }
-
--- a v not below 0
-pub record Natural (v : ℤ) : Type 0 where
-  pub cast : T (non_neg v) × Fits w64 (nat_abs v)
-  pub small : nat_abs v < 9223372036854775808
-  pub whole : v ≡ pos (nat_abs v)
-
-pub natural_of : (v : ℤ) → lt_z v (pos 0) ≡ false → SFits w64 v → Natural v
-natural_of (pos n) e f = let h = f.sfits in record { cast = natural_fits (pos n) refl f; small = omega arith; whole = refl }
-natural_of (negsuc n) e f = absurd (true≢false e)
 
 -- ---- the sum
 pub sum_bound : (v w : ℤ) → nat_abs (v +ℤ w) ≤ nat_abs v + nat_abs w
