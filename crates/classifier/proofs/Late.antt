@@ -65,7 +65,7 @@ module _ (engine : Engine) (s : Spec) (room : ℕ) (start : Start) where
         go false true = refl
         go false false = refl
 
-    pub late_outcome : {A : Type 0} (r : Result A Fault) → plans.number_of r ≡ late_number p room start → Outcome refused_whole (writing_fault engine s room start) r (λ u. is_start p start ≡ true)
+    late_outcome : {A : Type 0} (r : Result A Fault) → plans.number_of r ≡ late_number p room start → Outcome refused_whole (writing_fault engine s room start) r (λ u. is_start p start ≡ true)
     late_outcome (Ok u) e = (late_is ∙ ap (λ (k : ℕ). refuse k 0) (sym e), late_start p e)
     late_outcome (Err f) e = late_is ∙ ap (λ (k : ℕ). refuse k 0) (sym e) ∙ refuse-some (fault_number f) 0 (fault-some f)
 
@@ -88,7 +88,7 @@ fieldless engine s room old (after_tuple t) e h = let z : ◌≡◌ {A = Bool} f
 
 -- ---- a start that is none
 module _ (engine : Engine) (file heads : List ℕ) (c : ℕ) (scratch : List ℤ) (lists : List Span) (maps : List MaybeMap) (order : List ℕ) (opened : Opened file heads (length order) c) (planned : Planned engine file scratch lists maps order) (sound : sound_number engine (decoded file) ≡ 0) where
-  pub none-due : (start : Start) → Wide start → is_none (due engine (decoded file) start) ≡ not (is_start (plan_in file scratch lists maps order) start)
+  none-due : (start : Start) → Wide start → is_none (due engine (decoded file) start) ≡ not (is_start (plan_in file scratch lists maps order) start)
   none-due start l = go (length order) refl ∙ ap (λ (p : Plan). not (is_start p start)) (sym planned.plan-is)
     where
       ready : 0 < length order → Ready engine (decoded file)

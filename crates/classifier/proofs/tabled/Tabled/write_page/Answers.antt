@@ -16,7 +16,7 @@ use Rattle.classifier.proofs.Going.{Begun, going_begun, going_due, going_last, g
 use Rattle.classifier.proofs.Paging.{Writing, next_fewer, page_finished, page_stopped, writing_none, writing_turn, writing_wide}
 use Rattle.classifier.proofs.Starts.{Wide}
 use Rattle.classifier.proofs.Turning.{turn_row, turn_settled, words_in, words_long, words_verdict}
-use Rattle.classifier.proofs.Walked.{enables_given, enables_lie, rules_given, rules_long, walking_walks, walking_wide}
+use Rattle.classifier.proofs.Walked.{enables_given, enables_lie, rules_given, given_few, walking_walks, walking_wide}
 use Rattle.classifier.proofs.tabled.Tabled.write_page.Goals.{After-enables_of-many, After-write_verdict, At-loop-out, In-Some}
 use Rattle.classifier.proofs.tabled.Tabled.write_page.Goals as goal
 
@@ -24,8 +24,7 @@ pub enables_of-many-requires : goal.enables_of-many-requires
 enables_of-many-requires c =
     let self = c.args.self.now in
     let is = rules_given self.groups c.rules.result self.walk.plan.file.now (length self.walk.plan.order.now) self.file_is self.width_is c.rules.ensures.file c.rules.ensures.heads in
-    let l = rules_long self.walk.plan.file.now self.groups.heads.now c.rules.result.heads.now (length self.walk.plan.order.now) self.groups.constraints is.heads_are self.walking.opened in
-    (l.1, refl)
+    (given_few self.walk.plan.file.now self.groups.heads.now c.rules.result.heads.now (length self.walk.plan.order.now) self.groups.constraints is.heads_are self.walking.opened, refl)
 
 -- the enable records
 module _ (c : After-enables_of-many) where
