@@ -4,11 +4,10 @@ use mathlib.Core.Path.{◌∙◌, ◌≡◌, ap, ap₂, refl, sym}
 use Prim.Native.Nat.{◌*◌, ◌+◌, ◌-◌, ◌/◌, ◌<◌, ◌≤◌, suc, zero, ℕ}
 use native.Mathlib.Nat.{mul-le-mul}
 use native.Mathlib.Omega.{arith}
-use borrow.Rule.Slice.PartMut.{mid_len, mid_of, put_mid, same_len_mid}
-use lib.ListN.{drop, get_or, length, length-append, length-drop, length-map, replicate, set, take}
-use lib.Seq.{drop-drop, get_or-drop, length_front, length-take-le, take_all, take_at, take-suc}
+use borrow.Rule.Slice.PartMut.{put_mid}
+use lib.ListN.{drop, get_or, length, length-append, length-drop, length-map, set, take}
+use lib.Seq.{drop-drop, get_or-drop, length-take-le, take_at, take-suc}
 use Rattle.lists.proofs.Lists.{concat_map_append, map_append}
-use Rattle.lists.proofs.Tests.{ltb_no, ltb_yes}
 use Rattle.spec.specs.Code.{as_row}
 use Rattle.spec.specs.Kind as kinds
 use Rattle.spec.specs.Kind.{kind_of, row_of}
@@ -16,8 +15,8 @@ use Rattle.spec.specs.Record.{chunks, parts_of, record_of, records_of}
 use Rattle.spec.specs.declared.kinds.Row as code
 use Rattle.spec.proofs.Fields.{length_records}
 use Rattle.spec.proofs.Files.{laid}
-use Rattle.join.specs.Code.{add_use, bytes_at, joined_number, moved_range, total_by}
-use Rattle.join.specs.Join.{add_if, move_bytes, moves, sum_bytes}
+use Rattle.join.specs.Code.{add_use, bytes_at, moved_range, total_by}
+use Rattle.join.specs.Join.{add_if, move_bytes, moves}
 
 -- ---- bytes written part by part
 put_mid_lem : (at k m : ℕ) (out ys : List ℕ) → at ≤ length out → length ys ≡ m → take (at + m) (put_mid at k out ys) ≡ take at out ++ ys

@@ -6,7 +6,7 @@ use Prim.Native.Nat.{◌+◌, ◌<◌, ◌≤◌, suc, ℕ}
 use native.Mathlib.Numerals.{add-one}
 use native.Mathlib.Omega.{arith}
 use lib.Dec.{leb}
-use lib.ListN.{drop, get_or, length, length-append, set, take, drop_of_length-le}
+use lib.ListN.{drop, get_or, length, length-append, set, take}
 use lib.Seq.{drop-cons, length-sets, sets, sets-eq, take-append_seam}
 use Rattle.listing.specs.Counts.{IsPrefixLen}
 use Rattle.lists.specs.Lists.{concat_map}
