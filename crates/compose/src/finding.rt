@@ -44,6 +44,7 @@ pub(crate) fn mark_all(list: &[i64], w: Value, row: &mut [u8])
     requires { length row.old ≡ length list.now }
     ensures { row.new ≡ marked w.0 list.now row.old }
 {
+    // By `enumerate`: tried with `zip`, and the proof did not close.
     for (i, x) in list.iter().enumerate() {
         if *x == w.0 {
             row[i] = 1;

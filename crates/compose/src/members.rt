@@ -1,5 +1,5 @@
 // The members of a kept map, read through or by their index: for a parent value the child values that are paired with it.
-ghost use Rattle.std.specs.Prelude.{◌≡◌, ◌+◌, ◌-◌, ◌/◌, ◌≤◌, ◌<◌, ℕ, ℤ, true, false, ◌&&◌, map, length, List, MatchOption};
+ghost use Rattle.std.specs.Prelude.{◌≡◌, ◌-◌, ◌/◌, ◌≤◌, ◌<◌, ℕ, ℤ, true, false, ◌&&◌, map, length, List, MatchOption};
 ghost use Rattle.lists.specs.Integers.{eq_z};
 ghost use Rattle.lists.specs.Lists.{any};
 ghost use Rattle.spec.specs.Record.{entry_of, Record, record_at, records_of};
