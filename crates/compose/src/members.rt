@@ -164,7 +164,9 @@ pub(crate) fn new_key(members: IndexedRun, k: usize) -> Option<Value>
 }
 
 // How many keys the members have.
-pub(crate) fn keys_in(members: IndexedRun) -> usize {
+pub(crate) fn keys_in(members: IndexedRun) -> usize
+    ensures { result ≤ length members.entry.places.now }
+{
     (0..members.places.len())
         .filter(|k| new_key(members, *k).is_some())
         .count()
