@@ -147,15 +147,19 @@ pub fn put_verdicts(out: &mut [u8], words: &[i64], count: usize, width: usize) -
     put_lines(out, words, count, width)
 }
 
+// There is room for so many bytes from a place on.
+fn has_room(out: &[u8], at: usize, bytes: usize) -> bool
+    ensures { result ≡ has_room out.now at bytes }
+{
+    at <= out.len() && bytes <= out.len() - at
+}
+
 // The last line: end, total, emitted, passed, failed. It takes at most 88 bytes; without room for them nothing is put.
 pub fn put_end(out: &mut [u8], at: usize, c: Counts) -> usize
     ensures out_after { out.new ≡ put_if (has_room out.old at 88) (end_line (as_counts c)) at out.old }
     ensures value { result ≡ after_if (has_room out.old at 88) (end_line (as_counts c)) at }
 {
-    if out.len() < at {
-        return at;
-    }
-    if out.len() - at < 88 {
+    if !has_room(&out[..], at, 88) {
         return at;
     }
     let totals = put_word(out, at, b"end");
@@ -171,10 +175,7 @@ pub fn put_refusal(out: &mut [u8], at: usize, r: Refusal) -> usize
     ensures out_after { out.new ≡ put_if (has_room out.old at 50) (refused_line (as_refused r)) at out.old }
     ensures value { result ≡ after_if (has_room out.old at 50) (refused_line (as_refused r)) at }
 {
-    if out.len() < at {
-        return at;
-    }
-    if out.len() - at < 50 {
+    if !has_room(&out[..], at, 50) {
         return at;
     }
     put_refused(out, at, r)

@@ -1,23 +1,13 @@
 -- By the room; each piece stands right after the one before it.
 use mathlib.Core.List.{◌++◌}
-use mathlib.Core.Path.{refl}
+use mathlib.Core.Path.{◌∙◌, sym}
 use native.Mathlib.Omega.{arith}
 use borrow.Author.Rules.{rules}
 use lib.ListN.{length-append}
 use Rattle.listing.specs.Text.{decimal, end_line, end_word, newline, spaced}
-use Rattle.listing.proofs.Buffer.{put_after, room_no, room_yes}
+use Rattle.listing.proofs.Buffer.{put_after}
 use Rattle.listing.proofs.Decimal.{std_decimal}
 use Rattle.listing.proofs.text.put_end.Goals as goal
-
-pub returns-then-out-at : goal.returns-then-out-at
-returns-then-out-at c =
-    let args = c.args in
-    rw (room_no args.out.now args.at 88 (omega arith)) (record { out_after = refl; value = refl })
-
-pub returns-then-out-at-lt88 : goal.returns-then-out-at-lt88
-returns-then-out-at-lt88 c =
-    let args = c.args in
-    rw (room_no args.out.now args.at 88 (omega arith)) (record { out_after = refl; value = refl })
 
 pub returns : goal.returns
 unfolding end_line
@@ -46,4 +36,4 @@ returns c =
     let emitted-long = length-append (decimal args.c.emitted) (passed ++ (failed ++ newline)) in
     let passed-long = length-append (decimal args.c.passed) (failed ++ newline) in
     let failed-long = length-append (decimal args.c.failed) newline in
-    rw (room_yes args.out.now args.at 88 (omega (arith, c.if-out-at.false, c.if-out-at-lt88.false))) (record { out_after = put_after args.out.now word.new.out last args.at word.result end_word (total ++ (emitted ++ (passed ++ (failed ++ newline)))) word.ensures.out_after word.ensures.value from-total; value = omega (arith, word.ensures.value, first-is.value, second-is.value, third-is.value, fourth-is.value, byte.ensures.value, total-long, emitted-long, passed-long, failed-long) })
+    rw (sym c.has_room.ensures ∙ c.if-not-has_room.false) (record { out_after = put_after args.out.now word.new.out last args.at word.result end_word (total ++ (emitted ++ (passed ++ (failed ++ newline)))) word.ensures.out_after word.ensures.value from-total; value = omega (arith, word.ensures.value, first-is.value, second-is.value, third-is.value, fourth-is.value, byte.ensures.value, total-long, emitted-long, passed-long, failed-long) })
