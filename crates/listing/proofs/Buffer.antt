@@ -1,4 +1,5 @@
 -- Text put into a buffer piece by piece.
+use mathlib.Core.Bool.{true}
 use mathlib.Core.List.{List, [], ◌++◌, ◌∷◌}
 use mathlib.Core.Path.{◌∙◌, ◌≡◌, ap, refl, sym}
 use Prim.Native.Nat.{◌+◌, ◌<◌, ◌≤◌, suc, ℕ}
@@ -8,6 +9,8 @@ use lib.ListN.{drop, get_or, length, length-append, set, take}
 use lib.Seq.{drop-cons, length-sets, sets, sets-eq, take-append_seam}
 use Rattle.listing.specs.Counts.{IsPrefixLen}
 use Rattle.lists.specs.Lists.{concat_map}
+use Rattle.lists.proofs.Tests.{and-join, leb_yes}
+use Rattle.listing.specs.Words.{has_room}
 
 -- Two pieces, one after the other.
 pub sets_append : (l : List ℕ) (i : ℕ) (a b : List ℕ) → sets (sets l i a) (i + length a) b ≡ sets l i (a ++ b)
@@ -53,3 +56,7 @@ pub left_end : (whole : List ℕ) (end : ℕ) (l : List ℕ) (next : ℕ) (rest 
 left_end whole end l next rest none (same, ends) =
     let long = ap (λ (t : List ℕ). length t) none in
     (sym (ap (λ (t : List ℕ). sets l next t) none) ∙ same, omega arith)
+
+-- ---- room
+pub room_yes : (buffer : List ℕ) (at bytes : ℕ) → at + bytes ≤ length buffer → has_room buffer at bytes ≡ true
+room_yes buffer at bytes h = and-join (leb_yes at (length buffer) (omega arith)) (leb_yes (at + bytes) (length buffer) h)
