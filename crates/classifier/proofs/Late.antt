@@ -29,20 +29,16 @@ use Rattle.spec.specs.Code.{as_refused, fault_number}
 use Rattle.spec.specs.declared.refusal.Refusal.{Refusal}
 use Rattle.classifier.specs.declared.tabled.Prepared.{Prepared}
 use Rattle.classifier.specs.declared.writing.Page as code
-use Rattle.classifier.specs.Code.{Outcome, PageIs, as_page, is_start, writing_fault, late_number, paged, refused_whole, rules_of}
+use Rattle.classifier.specs.Code.{Outcome, PageIs, as_page, is_start, writing_fault, late_number, paged, refused_whole, refused_with, rules_of}
 use Rattle.classifier.specs.Count.{count_fault, scratch_after}
 use Rattle.classifier.specs.Page.{Page, Start, after_tuple, beginning, due, due_tuples, is_none, output_short, page_answer, page_fault, page_of, page_output, page_words, words_of}
-use Rattle.classifier.proofs.Answered.{fault-some, fault_file}
+use Rattle.classifier.proofs.Answered.{fault-some, fault_file, refuse-some}
 use Rattle.classifier.proofs.Starts.{Wide, due-none, due_start, due_start-none}
 use Rattle.classifier.proofs.Walked.{groups_opened, walking_ready}
 use Rattle.lists.specs.Lists.{over}
 use Rattle.spec.proofs.Numbered.{file_low, number_of}
 
--- ---- a number and its refusal
-refuse-some : (n i : ℕ) → ¬ (n ≡ 0) → refuse n i ≡ some (record { number = n; at = i })
-refuse-some zero i h = absurd (h refl)
-refuse-some (suc n) i h = refl
-
+-- ---- 14 and 15
 module _ (engine : Engine) (s : Spec) (room : ℕ) (start : Start) where
   late_start : (p : Plan) → 0 ≡ late_number p room start → is_start p start ≡ true
   late_start p e = go (ltb 0 (length p.lists) && ltb room (words_of (length p.lists))) (is_start p start) (sym e)
@@ -65,9 +61,12 @@ module _ (engine : Engine) (s : Spec) (room : ℕ) (start : Start) where
         go false true = refl
         go false false = refl
 
+    late_number_lem : (number : ℕ) → number ≡ late_number p room start → ¬ (number ≡ 0) → writing_fault engine s room start ≡ some (refused_with number)
+    late_number_lem number e h = late_is ∙ ap (λ (k : ℕ). refuse k 0) (sym e) ∙ refuse-some number 0 h
+
     late_outcome : {A : Type 0} (r : Result A Fault) → plans.number_of r ≡ late_number p room start → Outcome refused_whole (writing_fault engine s room start) r (λ u. is_start p start ≡ true)
     late_outcome (Ok u) e = (late_is ∙ ap (λ (k : ℕ). refuse k 0) (sym e), late_start p e)
-    late_outcome (Err f) e = late_is ∙ ap (λ (k : ℕ). refuse k 0) (sym e) ∙ refuse-some (fault_number f) 0 (fault-some f)
+    late_outcome (Err f) e = late_number_lem (fault_number f) e (fault-some f)
 
   -- The scratch is as the other refusals leave it.
   late_clears : (f : Option Refused) (old : List ℤ) → scratch_after (f ▷ writing_fault engine s room start) old ≡ scratch_after f old
