@@ -15,7 +15,7 @@ use itoa::{Buffer, Integer};
 use spec::refusal::Refusal;
 use spec::validate::Shape;
 
-// Buffer and place are handed from call to call: each call gives the place after it. Of a struct of both every contract would have to say, too, that it holds the same buffer still; and Display would need a writer that cannot fail.
+// Buffer and place are handed from call to call: each call gives the place after it. Of a struct of both every contract would have to say, too, that it holds the same buffer still; and `Display` writes to a writer, which may fail.
 fn put_byte(out: &mut [u8], at: usize, byte: u8) -> usize
     requires { at + 1 ≤ length out.old }
     ensures out_after { out.new ≡ sets out.old at (byte ∷ []) }
