@@ -1,4 +1,5 @@
 -- Judging record by record, where the records lie in a file: what one turn leaves.
+use Rattle.std.specs.Prelude.{Err, Ok, Result}
 use mathlib.Core.Bool.{Bool, cond, false, true, true≢false}
 use mathlib.Core.List.{List, [], ◌++◌, ◌∷◌}
 use mathlib.Core.Option.{Option, none, some}
@@ -10,7 +11,7 @@ use lib.Dec.{eqb}
 use lib.ListN.{drop, drop_of_length-le, length, take}
 use lib.Seq.{drop-drop}
 use Rattle.lists.specs.Lists.{is_empty}
-use Rattle.spec.specs.Code.{as_context, fault_number, left, left_at, refusal, section_number}
+use Rattle.spec.specs.Code.{RefusedAt, as_context, as_fault, fault_number, left, left_at, number_of, refusal, section_number}
 use Rattle.spec.specs.Kind.{Kind, constraint, field, is_member, member, projector, section_of, unknown}
 use Rattle.spec.specs.Record.{Record, record_at, records_of}
 use Rattle.spec.specs.Refusal.{Context, Refused, ◌▷◌, after_head, belongs, context, first_true, head_tests, list_fault, member_tests, misfiled_number, overfull, records_fault, refuse}
@@ -19,6 +20,7 @@ use Rattle.spec.proofs.Left.{first_head, first_member, first_none, left_end, lef
 use Rattle.spec.proofs.Refusals.{first_true-none, refuse-zero}
 use Rattle.spec.specs.declared.refusal.Fault.{Fault}
 use Rattle.spec.specs.declared.refusal.Fault.TheVariants as faults
+use Rattle.spec.specs.declared.refusal.Refusal.{Refusal}
 use Rattle.spec.specs.declared.scan.State.{State}
 
 drop_front : {A : Type 0} (n : ℕ) (l : List A) (x : A) (rest : List A) → drop n l ≡ x ∷ rest → take n l ++ (x ∷ []) ≡ take (suc n) l
@@ -139,3 +141,9 @@ fault_refused f n i e = ap (λ (k : ℕ). refuse k i) (sym e) ∙ go f
     go faults.OutputShort = refl
     go faults.NotEmitted = refl
     go faults.NotASum = refl
+
+-- What a record was judged to have, refused at it.
+pub refused_at : (judged : Result (Unit {0}) Fault) (i : ℕ) (r : Result (Unit {0}) Refusal) → RefusedAt judged i r → as_fault r ≡ refuse (number_of judged) i
+refused_at (Ok x) i r e = ap as_fault e
+refused_at (Err f) i (Ok x) e = absurd e
+refused_at (Err f) i (Err r) e = ap some e ∙ sym (fault_refused f (fault_number f) i refl)
