@@ -7,13 +7,13 @@ ghost use Rattle.compose.specs.Code.{FieldIn, fields_in, FieldsIn};
 ghost use Rattle.evaluate.specs.Verdict.{field_checks, if_passed};
 ghost use Rattle.evaluate.specs.Code.{allowed_at, behind, ChecksIn, first_chosen, from_one, holds_at};
 
-use registry::check::check;
+use registry::check::Head;
 use registry::project::project;
 use spec::domains::{allows_value, part};
 use spec::numbers::Value;
 use spec::records::record_at;
 
-// Its own file, heads and fields, not `Rules`: those say of every head that it lies in the file, here the heads chosen have to.
+// No `Rules` in it: `Rules` asks of every head that it lies in the file, and here only the heads chosen have to.
 // Constraints that rows are asked about: the heads of all of a file's, the numbers of those chosen among them, the index of the long lists of members, and how many values a row has.
 #[derive(Clone, Copy)]
 pub struct Checks<'a> {
@@ -52,7 +52,13 @@ impl<'a> Checks<'a> {
     {
         for number in self.chosen {
             let k = usize::from(*number);
-            if !check(self.file, self.heads[k], self.heads[k + 1], self.index, row) {
+            let head = Head {
+                file: self.file,
+                at: self.heads[k],
+                end: self.heads[k + 1],
+                index: self.index,
+            };
+            if !head.check(row) {
                 return Some(k);
             }
         }

@@ -6,6 +6,7 @@ ghost use Rattle.registry.specs.Index.{IndexIn};
 ghost use Rattle.evaluate.specs.Code.{is_listed, is_long_at, is_long_run, Unindexed};
 
 use compose::groups::Rules;
+use registry::check::MARK;
 use registry::sorting::index_run;
 use spec::domains::part;
 use spec::kinds::Kind;
@@ -63,7 +64,7 @@ fn index_at(file: &[u8], head: usize, end: usize, index: &mut [usize], spare: &m
         &mut index[from..end],
         &mut spare[from..end],
     );
-    index[head] = 4096 + end;
+    index[head] = MARK + end;
 }
 
 // Indexes the heads that have more members than the number given, in an index of zeros.

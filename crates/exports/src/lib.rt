@@ -47,7 +47,7 @@ fn page_answer(count: usize, done: usize, last: [usize; 32]) -> [usize; 34]
     answer
 }
 
-// The engine of a number, if there is one.
+// The engine of a number, if there is one. No `TryFrom`, since only this interface has these numbers.
 fn engine_of(number: u8) -> Option<Engine>
     ensures { MatchOption result (is_engine number ≡ false) (λ engine. (is_engine number ≡ true) × (as_engine engine ≡ engine_of number)) }
 {

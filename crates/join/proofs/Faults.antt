@@ -1,7 +1,8 @@
 -- The answer of join, case by case, and what an accepted file's shape says of it.
+use Rattle.std.specs.Prelude.{Err, IsErrAnd, MatchResult, Ok, Result}
 use mathlib.Core.Bool.{Bool, ◌||◌, cond, false, true}
 use mathlib.Core.List.{List, [], ◌++◌, ◌∷◌, append-nil, map}
-use mathlib.Core.Option.{Option, none, some}
+use mathlib.Core.Option.{none, some}
 use mathlib.Core.Path.{◌∙◌, ◌≡◌, ap, ap₂, refl, subst, sym}
 use Prim.Native.Nat.{◌%◌, ◌*◌, ◌+◌, ◌-◌, ◌≤◌, suc, zero, ℕ}
 use native.Mathlib.Nat.{sub-zero, zero-add}
@@ -11,44 +12,30 @@ use lib.ListN.{drop, get_or, length, length-append, length-drop, length-map, set
 use lib.Seq.{length-take-le, set-get_or}
 use Rattle.lists.proofs.Lists.{concat_map_append}
 use Rattle.lists.proofs.Tests.{eqb_no, eqb_yes, no_ge, or_split}
-use Rattle.spec.specs.Code.{as_answer, as_kind, as_refused, as_shape, kind_number}
-use Rattle.std.specs.Prelude.{Err, Ok, Result}
+use Rattle.spec.specs.Code.{as_kind, as_shape, fault_number, kind_number, number_of}
 use Rattle.spec.specs.Domain.{too_many, total}
 use Rattle.spec.specs.Kind.{kind_of, projector, row_of, sum}
 use Rattle.spec.specs.Record.{decoded, groups, parts_of, record_at, record_of, records_of, spec_of}
-use Rattle.spec.specs.Refusal.{Refused, ◌▷◌, accepted, answer, file_fault, refuse, refuse_if, refused}
+use Rattle.spec.specs.Refusal.{◌▷◌, accepted, file_fault, refuse, refuse_if, refused}
 use Rattle.spec.specs.Shape as shapes
 use Rattle.spec.specs.Shape.{shape_of}
 use Rattle.spec.specs.Spec.{FieldSpec, Spec}
 use Rattle.spec.specs.declared.kinds.Kind as kinds'
-use Rattle.spec.specs.declared.refusal.Refusal as code'
+use Rattle.spec.specs.declared.refusal.Fault.{Fault}
+use Rattle.spec.specs.declared.validate.Accepted.{Accepted}
 use Rattle.spec.specs.declared.validate.Shape as code
 use Rattle.spec.proofs.Accepted.{count-fields, decoded-few, file_good}
 use Rattle.spec.proofs.Files.{laid, length_laid}
 use Rattle.spec.proofs.Known.{named}
 use Rattle.spec.proofs.Sections.{field_heads}
-use Rattle.join.specs.Code.{RangeIn, joined_number, moved_range, refusal_of, total_by}
-use Rattle.join.specs.Join.{JoinRefused, add_if, field_count, first, is_sum, join_answer, join_bytes, join_fault, join_output, join_parts, join_spec, joined, move_bytes, moves, of, projector_at, second, section, sum_bytes, too_many_records}
+use Rattle.spec.proofs.Turns.{fault_refused}
+use Rattle.join.specs.declared.join.JoinRefusal.{JoinRefusal}
+use Rattle.join.specs.Code.{RangeIn, as_join_fault, as_join_refused, joined_number, moved_range, refusal_of, total_by}
+use Rattle.join.specs.Join.{JoinRefused, add_if, field_count, first, is_sum, join_answer, join_bytes, join_fault, join_output, join_parts, join_spec, joined, move_bytes, moves, not_sum, of, second, section, sum_bytes, too_many_records}
 use Rattle.join.proofs.Bytes.{field_count_records, joined_full}
 use Rattle.join.proofs.Ranges.{Ranged, ranged}
 use Rattle.join.proofs.Verdicts.{total-join}
 use Rattle.join.proofs.Written.{length_parts}
-
--- ---- what validate told
-module _ (file : List ℕ) (v : Result code.Shape code'.Refusal) (e : as_answer v ≡ answer (file_fault file) (shape_of file)) where
-  pub told_accepted : (s : code.Shape) → v ≡ Ok s → (file_fault file ≡ none) × (as_shape s ≡ shape_of file)
-  told_accepted s q = go (file_fault file) (sym (ap as_answer q) ∙ e)
-    where
-      go : (o : Option Refused) → accepted (as_shape s) ≡ answer o (shape_of file) → (o ≡ none) × (as_shape s ≡ shape_of file)
-      go none e = (refl, cc)
-      go (some r) e = cc
-
-  pub told_refused : (r : code'.Refusal) → v ≡ Err r → file_fault file ≡ some (as_refused r)
-  told_refused r q = go (file_fault file) (sym (ap as_answer q) ∙ e)
-    where
-      go : (o : Option Refused) → refused (as_refused r) ≡ answer o (shape_of file) → o ≡ some (as_refused r)
-      go none e = cc
-      go (some x) e = cc
 
 -- ---- the total of a joined file
 pub total_joined : (s t : Spec) → total (join_spec s t) ≡ total_by (length s.fields) (length t.fields) (total s) (total t)
@@ -102,16 +89,16 @@ module _ (room : ℕ) (f g : List ℕ) where
     fault_second r e = rw (a, e)
 
     module _ (b : file_fault g ≡ none) where
-      pub fault_sum_first : is_sum (decoded f).projector ≡ false → join_fault room f g ≡ some (refusal_of first 16 (projector_at f))
+      pub fault_sum_first : (r : JoinRefused) → of first (not_sum f) ≡ some r → join_fault room f g ≡ some r
       unfolding join_fault
-      fault_sum_first e = rw (a, b, e)
+      fault_sum_first r e = rw (a, b, e)
 
-      module _ (s : is_sum (decoded f).projector ≡ true) where
-        pub fault_sum_second : is_sum (decoded g).projector ≡ false → join_fault room f g ≡ some (refusal_of second 16 (projector_at g))
+      module _ (s : of first (not_sum f) ≡ none) where
+        pub fault_sum_second : (r : JoinRefused) → of second (not_sum g) ≡ some r → join_fault room f g ≡ some r
         unfolding join_fault
-        fault_sum_second e = rw (a, b, s, e)
+        fault_sum_second r e = rw (a, b, s, e)
 
-        pub fault_joined : is_sum (decoded g).projector ≡ true
+        pub fault_joined : of second (not_sum g) ≡ none
             → join_fault room f g ≡ of joined (refuse (joined_number (length (decoded f).fields + length (decoded g).fields) (length (decoded f).constraints + length (decoded g).constraints) (length (join_bytes f g)) (total (join_spec (decoded f) (decoded g))) room) 0)
         unfolding join_fault too_many
         fault_joined t = rw (a, b, s, t) (chain (too_many_records (decoded f) (decoded g)) (ltb 65536 (length (join_bytes f g))) (ltb 1000000000 (total (join_spec (decoded f) (decoded g)))) (ltb room (length (join_bytes f g))))
@@ -132,6 +119,12 @@ module _ (f g old : List ℕ) where
   pub output_joined : join_fault (length old) f g ≡ none → join_bytes f g ++ drop (length (join_bytes f g)) old ≡ join_output f g old
   unfolding join_output
   output_joined e = rw e
+
+-- What the joined file is judged to have, refused as its.
+pub refused_joined : (judged : Result (Unit {0}) Fault) (r : Result (Unit {0}) JoinRefusal) → MatchResult judged (λ x. r ≡ Ok x) (λ f. IsErrAnd r (λ e. as_join_refused e ≡ refusal_of joined (fault_number f) 0)) → as_join_fault r ≡ of joined (refuse (number_of judged) 0)
+refused_joined (Ok x) r e = ap as_join_fault e
+refused_joined (Err f) (Ok x) e = absurd e
+refused_joined (Err f) (Err r) e = ap some e ∙ ap (of joined) (sym (fault_refused f (fault_number f) 0 refl))
 
 -- ---- the shape of an accepted file
 pub record Shaped (file : List ℕ) (s : code.Shape) : Type 0 where
@@ -170,9 +163,9 @@ shaped file s good e =
       total-few = omega (arith, all, sized);
     }
 
--- The shapes of two accepted files.
-pub both_shaped : (f g : List ℕ) (s t : code.Shape) → (file_fault f ≡ none) × (file_fault g ≡ none) × (as_shape s ≡ shape_of f) × (as_shape t ≡ shape_of g) → Shaped f s × Shaped g t
-both_shaped f g s t h = (shaped f s h.0 h.2, shaped g t h.1 h.3)
+-- The shape of an accepted file.
+pub accepted_shaped : (a : Accepted) → Shaped a.file.now a.shape
+accepted_shaped a = shaped a.file.now a.shape a.accepted a.shape_is
 
 -- Its projector is a sum exactly when the kind read there is that of a sum.
 module _ {file : List ℕ} {s : code.Shape} (u : Shaped file s) (kind : kinds'.Kind) (e : as_kind kind ≡ (record_at file s.projector_at).kind) (n : kind_number kind ≡ (record_at file s.projector_at).code) where
@@ -267,10 +260,10 @@ module _ {f g : List ℕ} {s t : code.Shape} (u : Shaped f s) (v : Shaped g t) w
       length_laid (joined_full f g u.whole32 v.whole32) ∙ omega (arith, e, e₁, e₂, e₃, g₀, g₁, a, b, c, d, r, q)
 
   -- The number of the joined file's refusal, by the two shapes.
-  pub fault_number : (room : ℕ) → file_fault f ≡ none → file_fault g ≡ none → is_sum (decoded f).projector ≡ true → is_sum (decoded g).projector ≡ true
+  pub fault_by_shapes : (room : ℕ) → file_fault f ≡ none → file_fault g ≡ none → of first (not_sum f) ≡ none → of second (not_sum g) ≡ none
       → join_fault room f g
       ≡ of joined (refuse (joined_number (s.fields + t.fields) (s.constraints + t.constraints) ((s.projector_at + t.projector_at + 1) * 32) (total_by s.fields t.fields s.total t.total) room) 0)
-  fault_number room a b x y =
+  fault_by_shapes room a b x y =
       fault_joined room f g a b x y
       ∙ ap₂ (λ (n m : ℕ). of joined (refuse (joined_number n m (length (join_bytes f g)) (total (join_spec (decoded f) (decoded g))) room) 0)) (ap₂ ◌+◌ (sym u.fields-are) (sym v.fields-are)) (ap₂ ◌+◌ (sym u.constraints-are) (sym v.constraints-are))
       ∙ ap₂ (λ (n m : ℕ). of joined (refuse (joined_number (s.fields + t.fields) (s.constraints + t.constraints) n m room) 0)) join-length totals

@@ -1,16 +1,15 @@
 // Two files as one: first's fields, second's renumbered, constraints likewise, one sum.
 ghost use Rattle.std.specs.Prelude.{◌≡◌, ◌+◌, ◌-◌, ◌*◌, ◌/◌, ◌≤◌, ◌<◌, length, MatchResult};
-ghost use Rattle.std.proofs.Math.Option.{none, some};
-ghost use Rattle.spec.specs.Code.{as_refused, as_shape};
-ghost use Rattle.spec.specs.Refusal.{file_fault, refuse};
-ghost use Rattle.spec.specs.Shape.{shape_of};
-ghost use Rattle.join.specs.Join.{join_answer, join_bytes, join_output, joined, move_bytes, of, sum_bytes};
+ghost use Rattle.std.proofs.Math.Option.{some};
+ghost use Rattle.spec.specs.Code.{as_refused, number_of};
+ghost use Rattle.spec.specs.Refusal.{file_fault};
+ghost use Rattle.join.specs.Join.{join_answer, join_bytes, join_output, move_bytes, not_sum, of, sum_bytes};
 ghost use Rattle.join.specs.Code.{add_use, as_joined, as_join_fault, as_join_refused, as_which, bytes_at, joined_number, moved_range, MovesIn, RangeIn, total_by};
 
 use spec::kinds::{Kind, Use, row_of};
 use spec::records::kind_at;
 use spec::refusal::{Fault, Refusal};
-use spec::validate::{Shape, validate};
+use spec::validate::{Accepted, accept};
 use std::fmt;
 
 // The file that a refusal is about; the joined file is both.
@@ -45,13 +44,21 @@ impl Which {
         JoinRefusal { which: self, why }
     }
 
-    // What validate says of the file.
-    fn validate(self, file: &[u8]) -> Result<Shape, JoinRefusal>
-        ensures { MatchResult result (λ s. (file_fault file.now ≡ none) × (as_shape s ≡ shape_of file.now)) (λ r. of (as_which self) (file_fault file.now) ≡ some (as_join_refused r)) }
+    // The file, or which of 1 to 10 refuses it.
+    fn accept(self, file: &[u8]) -> Result<Accepted, JoinRefusal>
+        ensures { MatchResult result (λ a. a.file.now ≡ file.now) (λ r. of (as_which self) (file_fault file.now) ≡ some (as_join_refused r)) }
     {
-        match validate(file) {
-            Ok(shape) => Ok(shape),
-            Err(why) => Err(self.refused(why)),
+        accept(file).map_err(|why| self.refused(why))
+    }
+
+    // 16: the projector of the file is not a sum.
+    fn check_sum(self, accepted: Accepted) -> Result<(), JoinRefusal>
+        ensures { as_join_fault result ≡ of (as_which self) (not_sum accepted.entry.file.now) }
+    {
+        let at = accepted.shape.projector_at;
+        match kind_at(accepted.file, at) {
+            Kind::Sum => Ok(()),
+            _ => Err(self.refused(Fault::NotASum.at(at + 1))),
         }
     }
 }
@@ -104,27 +111,30 @@ fn put_sum(out: &mut [u8])
 }
 
 // Writes the joined file, which fills the output.
-fn write_joined(first: &[u8], second: &[u8], s: Shape, t: Shape, out: &mut [u8])
-    requires { (file_fault first.now ≡ none) × (file_fault second.now ≡ none) × (as_shape s ≡ shape_of first.now) × (as_shape t ≡ shape_of second.now) × (s.fields + t.fields ≤ 32) × (length out.old ≡ length (join_bytes first.now second.now)) }
-    ensures { out.new ≡ join_bytes first.now second.now }
+fn write_joined(first: Accepted, second: Accepted, out: &mut [u8])
+    requires { (first.shape.fields + second.shape.fields ≤ 32) × (length out.old ≡ length (join_bytes first.file.now second.file.now)) }
+    ensures { out.new ≡ join_bytes first.entry.file.now second.entry.file.now }
 {
+    let (f, s) = (first.file, first.shape);
+    let (g, t) = (second.file, second.shape);
     let by = s.fields as u8;
     let (fields, rest) = out.split_at_mut(s.constraints_at * 32);
     let (more_fields, rest) = rest.split_at_mut(t.constraints_at * 32);
     let (rules, rest) = rest.split_at_mut((s.projector_at - s.constraints_at) * 32);
     let (more_rules, sum) = rest.split_at_mut((t.projector_at - t.constraints_at) * 32);
-    put_records(first, 0, s.constraints_at, 0, fields);
-    put_records(second, 0, t.constraints_at, by, more_fields);
-    put_records(first, s.constraints_at, s.projector_at, 0, rules);
-    put_records(second, t.constraints_at, t.projector_at, by, more_rules);
+    put_records(f, 0, s.constraints_at, 0, fields);
+    put_records(g, 0, t.constraints_at, by, more_fields);
+    put_records(f, s.constraints_at, s.projector_at, 0, rules);
+    put_records(g, t.constraints_at, t.projector_at, by, more_rules);
     put_sum(sum);
 }
 
 // The total of the joined file: a file without fields leaves the other's.
-fn joined_total(s: Shape, t: Shape) -> usize
-    requires { (s.total ≤ 1000000000) × (t.total ≤ 1000000000) }
-    ensures { result ≡ total_by s.fields t.fields s.total t.total }
+fn joined_total(first: Accepted, second: Accepted) -> usize
+    ensures { result ≡ total_by first.entry.shape.fields second.entry.shape.fields first.entry.shape.total second.entry.shape.total }
 {
+    let s = first.shape;
+    let t = second.shape;
     if s.fields == 0 {
         return t.total;
     }
@@ -135,49 +145,36 @@ fn joined_total(s: Shape, t: Shape) -> usize
 }
 
 // 5, 1, 10 and 14; the joined file has len bytes.
-fn check_joined(s: Shape, t: Shape, len: usize, room: usize) -> Result<(), JoinRefusal>
-    requires { (s.total ≤ 1000000000) × (t.total ≤ 1000000000) × (s.fields ≤ 32) × (t.fields ≤ 32) × (s.constraints ≤ 256) × (t.constraints ≤ 256) }
-    ensures { as_join_fault result ≡ of joined (refuse (joined_number (s.fields + t.fields) (s.constraints + t.constraints) len (total_by s.fields t.fields s.total t.total) room) 0) }
+fn check_joined(first: Accepted, second: Accepted, len: usize, room: usize) -> Result<(), Fault>
+    ensures { number_of result ≡ joined_number (first.entry.shape.fields + second.entry.shape.fields) (first.entry.shape.constraints + second.entry.shape.constraints) len (total_by first.entry.shape.fields second.entry.shape.fields first.entry.shape.total second.entry.shape.total) room }
 {
-    if 32 < s.fields + t.fields {
-        return Err(Which::Both.refused(Fault::TooMany.at(0)));
-    }
-    if 256 < s.constraints + t.constraints {
-        return Err(Which::Both.refused(Fault::TooMany.at(0)));
+    let fields = first.shape.fields + second.shape.fields;
+    let constraints = first.shape.constraints + second.shape.constraints;
+    if (32 < fields) | (256 < constraints) {
+        return Err(Fault::TooMany);
     }
     if 65536 < len {
-        return Err(Which::Both.refused(Fault::WrongLength.at(0)));
+        return Err(Fault::WrongLength);
     }
-    if 1_000_000_000 < joined_total(s, t) {
-        return Err(Which::Both.refused(Fault::TooLarge.at(0)));
+    if 1_000_000_000 < joined_total(first, second) {
+        return Err(Fault::TooLarge);
     }
     if room < len {
-        return Err(Which::Both.refused(Fault::OutputShort.at(0)));
+        return Err(Fault::OutputShort);
     }
     Ok(())
 }
 
-// Both files are accepted by 1 to 10.
-fn join_accepted(
-    first: &[u8],
-    second: &[u8],
-    s: Shape,
-    t: Shape,
-    out: &mut [u8],
-) -> Result<usize, JoinRefusal>
-    requires { (file_fault first.now ≡ none) × (file_fault second.now ≡ none) × (as_shape s ≡ shape_of first.now) × (as_shape t ≡ shape_of second.now) }
-    ensures answer { as_joined result ≡ join_answer (length out.old) first.now second.now }
-    ensures out { out.new ≡ join_output first.now second.now out.old }
+// Joins two accepted files.
+fn join_accepted(first: Accepted, second: Accepted, out: &mut [u8]) -> Result<usize, JoinRefusal>
+    ensures answer { as_joined result ≡ join_answer (length out.old) first.entry.file.now second.entry.file.now }
+    ensures out { out.new ≡ join_output first.entry.file.now second.entry.file.now out.old }
 {
-    let Kind::Sum = kind_at(first, s.projector_at) else {
-        return Err(Which::First.refused(Fault::NotASum.at(s.projector_at + 1)));
-    };
-    let Kind::Sum = kind_at(second, t.projector_at) else {
-        return Err(Which::Second.refused(Fault::NotASum.at(t.projector_at + 1)));
-    };
-    let len = (s.projector_at + t.projector_at + 1) * 32;
-    check_joined(s, t, len, out.len())?;
-    write_joined(first, second, s, t, &mut out[..len]);
+    Which::First.check_sum(first)?;
+    Which::Second.check_sum(second)?;
+    let len = (first.shape.projector_at + second.shape.projector_at + 1) * 32;
+    check_joined(first, second, len, out.len()).map_err(|fault| Which::Both.refused(fault.at(0)))?;
+    write_joined(first, second, &mut out[..len]);
     Ok(len)
 }
 
@@ -186,7 +183,7 @@ pub fn join(first: &[u8], second: &[u8], out: &mut [u8]) -> Result<usize, JoinRe
     ensures answer { as_joined result ≡ join_answer (length out.old) first.now second.now }
     ensures out { out.new ≡ join_output first.now second.now out.old }
 {
-    let s = Which::First.validate(first)?;
-    let t = Which::Second.validate(second)?;
-    join_accepted(first, second, s, t, out)
+    let s = Which::First.accept(first)?;
+    let t = Which::Second.accept(second)?;
+    join_accepted(s, t, out)
 }

@@ -17,10 +17,7 @@ fn read_argument<R: Files + Eprint>(
 ) -> io::Result<Option<usize>>
     ensures { IfOk result (λ read. IfSome read (λ n. IsPrefixLen n file.new)) }
 {
-    match name {
-        Some(name) => read_file(rt, name.as_str(), file),
-        None => read_file(rt, "", file),
-    }
+    read_file(rt, name.as_deref().unwrap_or(""), file)
 }
 
 fn print_joined<R: Print + Eprint>(rt: &R, first: &[u8], second: &[u8]) -> io::Result<()> {

@@ -15,6 +15,7 @@ use itoa::{Buffer, Integer};
 use spec::refusal::Refusal;
 use spec::validate::Shape;
 
+// Buffer and place are handed from call to call: each call gives the place after it. Of a struct of both every contract would have to say, too, that it holds the same buffer still; and `Display` writes to a writer, which may fail.
 fn put_byte(out: &mut [u8], at: usize, byte: u8) -> usize
     requires { at + 1 ≤ length out.old }
     ensures out_after { out.new ≡ sets out.old at (byte ∷ []) }
@@ -98,7 +99,7 @@ fn put_projection(out: &mut [u8], at: usize, projection: Option<i64>) -> usize
     }
 }
 
-// The line of a verdict, from its page words.
+// The line of a verdict, from its page words, which are numbers as the page has them: passed, place, whether there is a projection, and which.
 fn put_line(out: &mut [u8], at: usize, words: &[i64]) -> usize
     requires { (4 ≤ length words.now) × (at + bytes_for (length words.now) ≤ length out.old) }
     ensures out_after { out.new ≡ sets out.old at (line_of words.now) }

@@ -17,12 +17,12 @@ use std::io;
 use std::io::{Read, Write};
 
 // The scratch that each engine's program lends.
-const SCRATCH: usize = 4096;
+pub const SCRATCH: usize = 4096;
 
 // The words of a page, and 21 bytes of text for each.
-const WORDS: usize = 4096;
+pub const WORDS: usize = 4096;
 
-const TEXT: usize = 86016;
+pub const TEXT: usize = 86016;
 
 // How many fields an accepted file has.
 pub fn fields_of(file: &[u8]) -> usize

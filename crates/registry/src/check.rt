@@ -14,8 +14,8 @@ use spec::kinds::Kind;
 use spec::numbers::Value;
 use spec::records::{a_at, b_at, kind_at, p_at, q_at};
 
-// The mark of a head whose members are indexed is this and the number of the record that they end before. No place reaches it.
-const MARK: usize = 4096;
+// The mark of a head whose members are indexed is this and the number of the record that they end before. No place reaches it. A number and not an enum, so that the places lie one behind the other, as the index of a run has them.
+pub const MARK: usize = 4096;
 
 // The test of one value that a constraint is, with its members; records that are no such test pass every value.
 pub fn meets(kind: Kind, p: i64, q: i64, run: &[u8], v: Value) -> bool
@@ -76,63 +76,80 @@ pub fn is_indexed(index: &[usize], head: usize, end: usize) -> bool
     }
 }
 
-// The members of the head at a record, with their index if they have one. Head and end are bounded here and below as the call's own indices.
-pub fn indexed_at<'a>(
-    file: &'a [u8],
-    head: usize,
-    end: usize,
-    index: &'a [usize],
-) -> Option<IndexedRun<'a>>
-    requires { (head < end) × (end ≤ length file.now / 32) × (end ≤ 65536) × IndexIn file.now index.now }
-    ensures { MatchOption result (get_or index.now head 0 ≢ 4096 + end) (λ r. (get_or index.now head 0 ≡ 4096 + end) × (records_of r.run.now ≡ take (end - suc head) (drop (suc head) (records_of file.now))) × (r.places.now ≡ take (end - suc head) (drop (suc head) index.now))) }
-{
-    if !is_indexed(index, head, end) {
-        return None;
-    }
-    Some(IndexedRun {
-        run: part(file, head + 1, end),
-        places: &index[head + 1..end],
-    })
+// A head of a file, the record that its members end before, and the index of the file.
+#[derive(Clone, Copy)]
+pub struct Head<'a> {
+    pub file: &'a [u8],
+    pub at: usize,
+    pub end: usize,
+    pub index: &'a [usize],
+    pub ghost inside: { (at < end) × (end ≤ length file.now / 32) × (end ≤ 65536) },
+    pub ghost indexed: { IndexIn file.now index.now },
 }
 
-// The two questions below differ in all but the choice by the index; one function for both would be handed each as a closure.
-// The value is one of the items of the oneof at record head.
-fn has_item(file: &[u8], head: usize, end: usize, index: &[usize], v: Value) -> bool
-    requires { (head < end) × (end ≤ length file.now / 32) × (end ≤ 65536) × IndexIn file.now index.now }
-    ensures { result ≡ elem_z v.0 (ps_of (take (end - suc head) (drop (suc head) (records_of file.now)))) }
-{
-    match indexed_at(file, head, end, index) {
-        Some(items) => items.finds_p(v),
-        None => has_p(part(file, head + 1, end), v),
+impl<'a> Head<'a> {
+    // Its members.
+    fn run(self) -> &'a [u8]
+        ensures { records_of result.now ≡ take (self.entry.end - suc self.entry.at) (drop (suc self.entry.at) (records_of self.entry.file.now)) }
+    {
+        part(self.file, self.at + 1, self.end)
     }
-}
 
-// The cross at record head lets parent value v have child value w.
-fn crosses_at(file: &[u8], head: usize, end: usize, index: &[usize], v: Value, w: Value) -> bool
-    requires { (head < end) × (end ≤ length file.now / 32) × (end ≤ 65536) × IndexIn file.now index.now }
-    ensures { result ≡ cross_allows (map entry_of (take (end - suc head) (drop (suc head) (records_of file.now)))) v.0 w.0 }
-{
-    match indexed_at(file, head, end, index) {
-        Some(entries) => entries.finds_cross(v, w),
-        None => crosses(part(file, head + 1, end), v, w),
+    // Its members with their index, if they have one.
+    pub fn indexed(self) -> Option<IndexedRun<'a>>
+        ensures { MatchOption result (get_or self.entry.index.now self.entry.at 0 ≢ 4096 + self.entry.end) (λ r. (get_or self.entry.index.now self.entry.at 0 ≡ 4096 + self.entry.end) × (records_of r.run.now ≡ take (self.entry.end - suc self.entry.at) (drop (suc self.entry.at) (records_of self.entry.file.now))) × (r.places.now ≡ take (self.entry.end - suc self.entry.at) (drop (suc self.entry.at) self.entry.index.now))) }
+    {
+        if !is_indexed(self.index, self.at, self.end) {
+            return None;
+        }
+        Some(IndexedRun {
+            run: self.run(),
+            places: &self.index[self.at + 1..self.end],
+        })
     }
-}
 
-// The constraint at record head, whose members end before record end.
-pub fn check(file: &[u8], head: usize, end: usize, index: &[usize], row: &[i64]) -> bool
-    requires { HeadIn file.now head end (length row.now) × (end ≤ 65536) × IndexIn file.now index.now }
-    ensures { result ≡ all (holds row.now) (constraint_of (group_in file.now head end)) }
-{
-    let v = row[a_at(file, head)];
-    let w = row[b_at(file, head)];
-    match kind_at(file, head) {
-        Kind::Eq => v == w,
-        Kind::Neq => v != w,
-        Kind::Oneof => has_item(file, head, end, index, Value(v)),
-        Kind::Cross => crosses_at(file, head, end, index, Value(v), Value(w)),
-        kind => {
-            let run = part(file, head + 1, end);
-            meets(kind, p_at(file, head), q_at(file, head), run, Value(v))
+    // The two questions below differ in all but the choice by the index; one function for both would be handed each as a closure.
+    // The value is one of the items of a oneof.
+    fn has_item(self, v: Value) -> bool
+        ensures { result ≡ elem_z v.0 (ps_of (take (self.entry.end - suc self.entry.at) (drop (suc self.entry.at) (records_of self.entry.file.now)))) }
+    {
+        match self.indexed() {
+            Some(items) => items.finds_p(v),
+            None => has_p(self.run(), v),
+        }
+    }
+
+    // A cross lets parent value v have child value w.
+    fn lets(self, v: Value, w: Value) -> bool
+        ensures { result ≡ cross_allows (map entry_of (take (self.entry.end - suc self.entry.at) (drop (suc self.entry.at) (records_of self.entry.file.now)))) v.0 w.0 }
+    {
+        match self.indexed() {
+            Some(entries) => entries.finds_cross(v, w),
+            None => crosses(self.run(), v, w),
+        }
+    }
+
+    // The constraint.
+    pub fn check(self, row: &[i64]) -> bool
+        requires { HeadIn self.file.now self.at self.end (length row.now) }
+        ensures { result ≡ all (holds row.now) (constraint_of (group_in self.entry.file.now self.entry.at self.entry.end)) }
+    {
+        let file = self.file;
+        let head = self.at;
+        let v = row[a_at(file, head)];
+        let w = row[b_at(file, head)];
+        match kind_at(file, head) {
+            Kind::Eq => v == w,
+            Kind::Neq => v != w,
+            Kind::Oneof => self.has_item(Value(v)),
+            Kind::Cross => self.lets(Value(v), Value(w)),
+            kind => meets(
+                kind,
+                p_at(file, head),
+                q_at(file, head),
+                self.run(),
+                Value(v),
+            ),
         }
     }
 }

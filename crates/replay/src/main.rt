@@ -7,15 +7,10 @@ ghost use Rattle.listing.specs.Counts.{IsPrefixLen};
 use classifier::page::page;
 use compose::force::Engine;
 use listing::text::put_verdicts;
-use program::list::{fields_of, last_text};
+use program::list::{SCRATCH, TEXT, WORDS, fields_of, last_text};
 use program::{ROOM, read_file};
 use std::rt::Files;
 use std::{env, io};
-
-// A stored file has at most 60 rows and 32 fields: one page.
-const WORDS: usize = 4096;
-
-const TEXT: usize = 86016;
 
 // Word 1 of each verdict is its place.
 fn clear_places(words: &mut [i64], width: usize)
@@ -46,8 +41,9 @@ fn rows_text(
     }
 }
 
+// A stored file has at most 60 rows and 32 fields: one page.
 fn print_listing(rt: &impl Print, engine: Engine, file: &[u8]) -> io::Result<()> {
-    let mut scratch = [0i64; 4096];
+    let mut scratch = [0i64; SCRATCH];
     let mut words = [0i64; WORDS];
     let mut text = [0u8; TEXT];
     let n = rows_text(engine, file, &mut scratch, &mut words, &mut text);

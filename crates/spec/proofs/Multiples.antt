@@ -1,15 +1,15 @@
 -- The code's arithmetic on steps and ranges.
-use mathlib.Core.Bool.{false, true, true≢false}
+use mathlib.Core.Bool.{Bool, false, true, true≢false}
 use mathlib.Core.Path.{◌≡◌, refl}
 use Prim.Native.Nat.{◌*◌, ◌+◌, ◌-◌, ◌/◌, ◌<◌, ◌^◌, ◌≤◌, suc, zero, ℕ}
 use native.Mathlib.Nat.{div-le_self, div-mul-le_self}
 use native.Mathlib.Numerals.{add-one}
 use native.Mathlib.Omega.{arith}
-use lib.Dec.{T}
+use lib.Dec.{T, ltb}
 use lib.IntN.{◌-ℤ◌, nat_abs, negsuc, pos, ℤ}
 use lib.Signed.{le_z, lt_z, non_neg, quot_z}
 use mir.Syntax.{w64}
-use mir.Val.{Fits, SFits, of_z, to_z}
+use mir.Val.{Fits, SFits, of_z, sel, to_z}
 use mir.ValLaws.{to_z-of_z, to_z_pos}
 use Rattle.std.specs.Int.{int_max}
 use Rattle.lists.proofs.Signed.{apart_bound, lt_nle, natural_apart, neg_abs, nlt_le}
@@ -78,3 +78,16 @@ pub counted_in : (p q r first : ℤ) → InScale p q r → SFits w64 first → S
 counted_in p q r first h ff fq is e =
     let small = step_small (nat_abs r) (scale_bound r h.r_in) in
     counted (step_of (nat_abs r)) first q ff fq (step_positive (nat_abs r)) small (rw is (first_bound (step_of (nat_abs r)) p small (scale_bound p h.p_in))) (scale_bound q h.q_in) (nlt_le q first e)
+
+-- ---- bits
+-- what bits are that are read as a number not below 0
+pub bits_are : (n s : ℕ) → to_z w64 n ≡ pos s → n ≡ s
+bits_are n s e = go (ltb n (2 ^ 63)) e
+  where
+    go : (b : Bool) → sel b (pos n) (negsuc (2 ^ 64 - suc n)) ≡ pos s → n ≡ s
+    go true h = cc
+    go false h = cc
+
+pub bits_of : (n : ℕ) (r : ℤ) → negative r ≡ false → to_z w64 n ≡ r → n ≡ of_z w64 r
+bits_of n (pos m) natural e = bits_are n m e
+bits_of n (negsuc m) natural e = absurd (true≢false natural)

@@ -1,5 +1,6 @@
 -- Judging record by record, where the records lie in a file: what one turn leaves.
-use mathlib.Core.Bool.{cond, false, true, true≢false}
+use Rattle.std.specs.Prelude.{Err, Ok, Result}
+use mathlib.Core.Bool.{Bool, cond, false, true, true≢false}
 use mathlib.Core.List.{List, [], ◌++◌, ◌∷◌}
 use mathlib.Core.Option.{Option, none, some}
 use mathlib.Core.Path.{◌∙◌, ◌≡◌, ap, ap₂, refl, sym}
@@ -10,8 +11,8 @@ use lib.Dec.{eqb}
 use lib.ListN.{drop, drop_of_length-le, length, take}
 use lib.Seq.{drop-drop}
 use Rattle.lists.specs.Lists.{is_empty}
-use Rattle.spec.specs.Code.{as_context, fault_number, left, left_at, refusal, section_number}
-use Rattle.spec.specs.Kind.{Kind, is_member}
+use Rattle.spec.specs.Code.{RefusedAt, as_context, as_fault, fault_number, left, left_at, number_of, refusal, section_number}
+use Rattle.spec.specs.Kind.{Kind, constraint, field, is_member, member, projector, section_of, unknown}
 use Rattle.spec.specs.Record.{Record, record_at, records_of}
 use Rattle.spec.specs.Refusal.{Context, Refused, ◌▷◌, after_head, belongs, context, first_true, head_tests, list_fault, member_tests, misfiled_number, overfull, records_fault, refuse}
 use Rattle.spec.proofs.Fields.{length_records, records_from}
@@ -19,12 +20,28 @@ use Rattle.spec.proofs.Left.{first_head, first_member, first_none, left_end, lef
 use Rattle.spec.proofs.Refusals.{first_true-none, refuse-zero}
 use Rattle.spec.specs.declared.refusal.Fault.{Fault}
 use Rattle.spec.specs.declared.refusal.Fault.TheVariants as faults
+use Rattle.spec.specs.declared.refusal.Refusal.{Refusal}
 use Rattle.spec.specs.declared.scan.State.{State}
 
 drop_front : {A : Type 0} (n : ℕ) (l : List A) (x : A) (rest : List A) → drop n l ≡ x ∷ rest → take n l ++ (x ∷ []) ≡ take (suc n) l
 drop_front zero l x rest e = sym (ap (take 1) e)
 drop_front (suc n) [] x rest e = absurd (true≢false (ap is_empty e))
 drop_front (suc n) (y ∷ l) x rest e = ap (λ k. y ∷ k) (drop_front n l x rest e)
+
+-- ---- the context after a head, by its section; a member changes nothing
+abbrev pub after_in : (member : Bool) → ℕ → Context → Context
+after_in true section c = c
+after_in false zero c = context (c.fields + 1) c.constraints c.section
+after_in false (suc zero) c = context c.fields (c.constraints + 1) 1
+after_in false (suc (suc zero)) c = context c.fields c.constraints 2
+after_in false (suc (suc (suc section))) c = c
+
+pub after_class : (k : Kind) (c : Context) → after_head k c ≡ after_in (is_member k) (section_of k) c
+after_class field c = ap (λ (n : ℕ). context n c.constraints c.section) (sym (add-one c.fields))
+after_class unknown c = refl
+after_class (constraint k) c = ap (λ (n : ℕ). context c.fields n 1) (sym (add-one c.constraints))
+after_class (projector k) c = refl
+after_class (member k) c = refl
 
 -- ---- a turn
 -- The records after record i.
@@ -124,3 +141,9 @@ fault_refused f n i e = ap (λ (k : ℕ). refuse k i) (sym e) ∙ go f
     go faults.OutputShort = refl
     go faults.NotEmitted = refl
     go faults.NotASum = refl
+
+-- What a record was judged to have, refused at it.
+pub refused_at : (judged : Result (Unit {0}) Fault) (i : ℕ) (r : Result (Unit {0}) Refusal) → RefusedAt judged i r → as_fault r ≡ refuse (number_of judged) i
+refused_at (Ok x) i r e = ap as_fault e
+refused_at (Err f) i (Ok x) e = absurd e
+refused_at (Err f) i (Err r) e = ap some e ∙ sym (fault_refused f (fault_number f) i refl)

@@ -1,5 +1,5 @@
 -- What the code's types stand for, and what it computes on the way where no definition of the requirement says it.
-use Rattle.std.specs.Prelude.{Bool, cond, true, false, ◌&&◌, ◌||◌, List, map, ◌≡◌, ℕ, zero, suc, ◌+◌, ◌-◌, ◌*◌, ◌/◌, ◌^◌, ◌≤◌, ◌<◌, eqb, leb, ltb, ℤ, pos, nat_abs, length, take, drop, Result, Ok, Err}
+use Rattle.std.specs.Prelude.{Bool, cond, true, false, ◌&&◌, ◌||◌, List, map, ◌≡◌, ℕ, zero, suc, ◌+◌, ◌-◌, ◌*◌, ◌/◌, ◌^◌, ◌≤◌, ◌<◌, eqb, leb, ltb, ℤ, pos, nat_abs, length, take, drop, Result, Ok, Err, IsErrAnd, MatchResult}
 use Rattle.std.proofs.Math.Option.{Option, none, some}
 use Rattle.lists.specs.Integers.{eq_z}
 use Rattle.lists.specs.Lists.{any}
@@ -208,6 +208,10 @@ refusal f i = record { number = fault_number f; at = i }
 -- The refusal that the code's struct stands for.
 abbrev pub as_refused : code⁵.Refusal → Refused
 as_refused r = refusal r.fault r.record
+
+-- The same value, or the same fault as the refusal of a record.
+abbrev pub RefusedAt : {T : Type 0} → Result T Fault → ℕ → Result T code⁵.Refusal → Type 0
+RefusedAt judged i result = MatchResult judged (λ x. result ≡ Ok x) (λ f. IsErrAnd result (λ r. as_refused r ≡ refusal f i))
 
 -- The number of the fault that a record was judged to have; 0 for none.
 abbrev pub number_of : Result (Unit {0}) Fault → ℕ

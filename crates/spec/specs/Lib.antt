@@ -5,3 +5,4 @@ pub mod Record
 pub mod Refusal
 pub mod Shape
 pub mod Code
+pub mod Props

@@ -18,7 +18,7 @@ pub struct Rise {
     pub len: usize,
 }
 
-// Here and below, numbers that the scan found on the scale. They have no type of their own: the field check, over the same record, asks for less.
+// That p, q and r are on the scale is asked of numbers here and of a record below, with its values or with how many they are: one struct for all four would be made anew at each call, and be no plainer.
 // The least multiple of the step at or above p.
 fn first_multiple(step: i64, p: i64) -> i64
     requires { (on_scale p ≡ true) × (on_scale step ≡ true) × (le_z (pos 1) step ≡ true) }

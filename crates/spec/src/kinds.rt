@@ -74,7 +74,7 @@ impl From<u8> for Kind {
     }
 }
 
-// The parts of a file, in their order. A record of no known kind stands in neither.
+// The parts of a file, in their order. A record of no known kind stands in none of the three.
 #[derive(Clone, Copy, PartialEq, Eq, PartialOrd, Ord)]
 pub enum Section {
     Fields,

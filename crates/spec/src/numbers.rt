@@ -79,12 +79,15 @@ const POWERS: [u64; 64] = [
     9223372036854775808,
 ];
 
+// The same, lying at one place: a constant array is copied at each use of its name.
+static TABLE: [u64; 64] = POWERS;
+
 // 2^k. That k is below 64 is the bound of the call's own index, here and where the table is asked.
 pub fn power(k: usize) -> u64
     requires { k < 64 }
     ensures { result ≡ 2 ^ k }
 {
-    POWERS[k]
+    TABLE[k]
 }
 
 // The little-endian number at byte `at`.

@@ -6,7 +6,7 @@ ghost use Rattle.spec.specs.Code.{InBytes, is_plain};
 use crate::judge::on_scale;
 use crate::records::{lead_at, p_at, q_at, r_at};
 
-// The first eight bytes of a pair and of an item, as one number; and of a value of field a, but for a.
+// The first eight bytes of a pair and of an item, as one number; and of a value of field a, but for a. Not kinds: kind, a, b and padding are tested at once.
 pub(crate) const PAIR: u64 = 4;
 
 pub(crate) const ITEM: u64 = 3;

@@ -1,7 +1,6 @@
 // What a refused call answers.
 ghost use Rattle.std.specs.Prelude.{◌≡◌};
-ghost use Rattle.spec.specs.Refusal.{refuse};
-ghost use Rattle.spec.specs.Code.{as_fault, as_refused, fault_number, number_of, refusal};
+ghost use Rattle.spec.specs.Code.{as_refused, fault_number, refusal, RefusedAt};
 
 // Why a call is refused, in the order of the numbers that files, listings and other languages have for it.
 #[derive(Clone, Copy, PartialEq, Eq)]
@@ -84,9 +83,9 @@ impl Fault {
     }
 }
 
-// A record that was judged is refused, if it has a fault.
-pub(crate) fn refuse_at(judged: Result<(), Fault>, number: usize) -> Result<(), Refusal>
-    ensures { as_fault result ≡ refuse (number_of judged) number }
+// What was judged; a fault of it is the refusal of a record, which is counted from 1; 0 for the whole.
+pub fn refuse_at<T>(judged: Result<T, Fault>, number: usize) -> Result<T, Refusal>
+    ensures { RefusedAt judged number result }
 {
     judged.map_err(|fault| fault.at(number))
 }

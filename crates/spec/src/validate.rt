@@ -1,8 +1,10 @@
 // Refusals 1 to 10, or what the layers above need.
-ghost use Rattle.std.specs.Prelude.{◌≡◌};
+ghost use Rattle.std.specs.Prelude.{◌≡◌, MatchResult};
+ghost use Rattle.std.proofs.Math.Option.{none, some};
 ghost use Rattle.spec.specs.Refusal.{answer, file_fault};
 ghost use Rattle.spec.specs.Shape.{shape_of};
-ghost use Rattle.spec.specs.Code.{as_answer};
+ghost use Rattle.spec.specs.Code.{as_answer, as_refused, as_shape};
+ghost use Rattle.spec.specs.Props.{facts};
 
 use crate::refusal::{Fault, Refusal};
 use crate::scan::scan;
@@ -40,4 +42,21 @@ pub fn validate(file: &[u8]) -> Result<Shape, Refusal>
         projector_at: constraints.end,
         total,
     })
+}
+
+// A file that 1 to 10 do not refuse, with its shape.
+#[derive(Clone, Copy)]
+pub struct Accepted<'a> {
+    pub file: &'a [u8],
+    pub shape: Shape,
+    pub ghost accepted: { file_fault file.now ≡ none } by { Prim.hlevel facts },
+    pub ghost shape_is: { as_shape shape ≡ shape_of file.now } by { Prim.hlevel facts },
+}
+
+// The file with its shape, or which of 1 to 10 refuses it.
+pub fn accept(file: &[u8]) -> Result<Accepted, Refusal>
+    ensures { MatchResult result (λ a. a.file.now ≡ file.now) (λ r. file_fault file.now ≡ some (as_refused r)) }
+{
+    let shape = validate(file)?;
+    Ok(Accepted { file, shape })
 }

@@ -5,7 +5,7 @@ use native.Mathlib.Omega.{arith}
 use Rattle.std.proofs.lemmas.Result.{err_from_is_err_and}
 use Rattle.spec.specs.Code.{as_kind, as_record, as_refused}
 use Rattle.spec.specs.Refusal.{Context, after_head, first_true, head_tests, refuse}
-use Rattle.spec.proofs.Turns.{at_first_head, at_first_member, at_none, at_opened, fault_refused}
+use Rattle.spec.proofs.Turns.{at_first_head, at_first_member, at_none, at_opened, fault_refused, refused_at}
 use Rattle.spec.proofs.scan.scan.Goals as goal
 
 pub returns-then-is_empty : goal.returns-then-is_empty
@@ -24,7 +24,7 @@ returns-in_err-refuse_at c =
     let inside : 0 < length c.args.file.now / 32 = omega arith in
     let judged = c.judge_head.ensures ∙ ap (λ (x : Context). first_true 2 (head_tests m.kind x m)) c.new-context.ensures in
     let p = err_from_is_err_and c.from_residual.result c.from_residual.ensures.1 in
-    rw (p.1, p.2) (sym (at_first_head c.args.file.now m c.record_at-m.ensures.read inside (some (as_refused c.in_err-refuse_at.field-0.0)) (c.in_err-refuse_at.ensures ∙ ap (λ (n : ℕ). refuse n 1) judged) (sym c.is_member.ensures ∙ c.if-is_member.false)))
+    rw (p.1, p.2) (sym (at_first_head c.args.file.now m c.record_at-m.ensures.read inside (some (as_refused c.in_err-refuse_at.field-0.0)) (refused_at _ _ _ c.in_err-refuse_at.ensures ∙ ap (λ (n : ℕ). refuse n 1) judged) (sym c.is_member.ensures ∙ c.if-is_member.false)))
 
 pub returns : goal.returns
 returns c =
@@ -32,5 +32,5 @@ returns c =
     let inside : 0 < length c.args.file.now / 32 = omega arith in
     let judged = c.judge_head.ensures ∙ ap (λ (x : Context). first_true 2 (head_tests m.kind x m)) c.new-context.ensures in
     c.scan_from.ensures
-    ∙ sym (at_first_head c.args.file.now m c.record_at-m.ensures.read inside none (c.in_ok-refuse_at.ensures ∙ ap (λ (n : ℕ). refuse n 1) judged) (sym c.is_member.ensures ∙ c.if-is_member.false)
+    ∙ sym (at_first_head c.args.file.now m c.record_at-m.ensures.read inside none (refused_at _ _ _ c.in_ok-refuse_at.ensures ∙ ap (λ (n : ℕ). refuse n 1) judged) (sym c.is_member.ensures ∙ c.if-is_member.false)
     ∙ at_opened c.args.file.now _ m (record { context = c.after.result; head = 0 }) c.record_at-m.ensures.read (c.after.ensures ∙ ap (after_head (as_kind c.record_at-m.result.kind)) c.new-context.ensures))

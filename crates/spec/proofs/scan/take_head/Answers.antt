@@ -5,7 +5,7 @@ use native.Mathlib.Omega.{arith}
 use Rattle.std.proofs.lemmas.Result.{err_from_is_err_and}
 use Rattle.spec.specs.Code.{as_context, as_kind, as_record, as_refused}
 use Rattle.spec.specs.Refusal.{refuse}
-use Rattle.spec.proofs.Turns.{at_head, at_opened, has_room}
+use Rattle.spec.proofs.Turns.{at_head, at_opened, has_room, refused_at}
 use Rattle.spec.proofs.scan.take_head.Goals as goal
 
 pub returns-in_err-close_list : goal.returns-in_err-close_list
@@ -16,16 +16,16 @@ returns-in_err-close_list c =
 pub returns-in_err-refuse_at : goal.returns-in_err-refuse_at
 returns-in_err-refuse_at c =
     let p = err_from_is_err_and c.from_residual-in_err-refuse_at.result c.from_residual-in_err-refuse_at.ensures.1 in
-    let own = c.in_err-refuse_at.ensures ∙ ap (λ (n : ℕ). refuse n (c.args.i + 1)) c.judge_head.ensures in
+    let own = refused_at _ _ _ c.in_err-refuse_at.ensures ∙ ap (λ (n : ℕ). refuse n (c.args.i + 1)) c.judge_head.ensures in
     rw (p.1, p.2) (at_head c.args.file.now c.args.state _ _ c.args.i refl refl (as_record c.args.m) c.requires.2 c.requires.1 none (some (as_refused c.in_err-refuse_at.field-0.0)) c.in_ok-close_list.ensures own c.requires.3, tt)
 
 pub after-requires-clause-room : goal.after-requires-clause-room
 after-requires-clause-room c =
-    has_room (as_kind c.args.m.kind) (as_context c.args.state.context) (as_record c.args.m) (c.args.i + 1) (c.in_ok-refuse_at.ensures ∙ ap (λ (n : ℕ). refuse n (c.args.i + 1)) c.judge_head.ensures)
+    has_room (as_kind c.args.m.kind) (as_context c.args.state.context) (as_record c.args.m) (c.args.i + 1) (refused_at _ _ _ c.in_ok-refuse_at.ensures ∙ ap (λ (n : ℕ). refuse n (c.args.i + 1)) c.judge_head.ensures)
 
 pub returns : goal.returns
 returns c =
-    let own = c.in_ok-refuse_at.ensures ∙ ap (λ (n : ℕ). refuse n (c.args.i + 1)) c.judge_head.ensures in (
+    let own = refused_at _ _ _ c.in_ok-refuse_at.ensures ∙ ap (λ (n : ℕ). refuse n (c.args.i + 1)) c.judge_head.ensures in (
       at_head c.args.file.now c.args.state _ _ c.args.i refl refl (as_record c.args.m) c.requires.2 c.requires.1 none none c.in_ok-close_list.ensures own c.requires.3
           ∙ at_opened c.args.file.now _ (as_record c.args.m) (record { context = c.after.result; head = c.args.i }) c.requires.2 c.after.ensures,
       omega arith,

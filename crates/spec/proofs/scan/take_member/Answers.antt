@@ -5,7 +5,7 @@ use native.Mathlib.Omega.{arith}
 use Rattle.std.proofs.lemmas.Result.{err_from_is_err_and}
 use Rattle.spec.specs.Code.{as_record, as_refused}
 use Rattle.spec.specs.Refusal.{belongs, refuse}
-use Rattle.spec.proofs.Turns.{at_member, at_stray, fault_refused}
+use Rattle.spec.proofs.Turns.{at_member, at_stray, fault_refused, refused_at}
 use Rattle.spec.proofs.scan.take_member.Goals as goal
 
 pub returns-in_err-close_list : goal.returns-in_err-close_list
@@ -22,10 +22,10 @@ returns-then-not-belongs_to c =
 pub returns-in_err-refuse_at : goal.returns-in_err-refuse_at
 returns-in_err-refuse_at c =
     let p = err_from_is_err_and c.from_residual-in_err-refuse_at.result c.from_residual-in_err-refuse_at.ensures.1 in
-    let own = c.in_err-refuse_at.ensures ∙ ap (λ (n : ℕ). refuse n (c.args.i + 1)) c.judge_member.ensures in
+    let own = refused_at _ _ _ c.in_err-refuse_at.ensures ∙ ap (λ (n : ℕ). refuse n (c.args.i + 1)) c.judge_member.ensures in
     rw (p.1, p.2) (at_member c.args.file.now c.args.state _ _ c.args.i c.record_at-head.ensures.read c.part-before.ensures.records (as_record c.args.m) c.requires.2 c.requires.1 (some (as_refused c.in_err-refuse_at.field-0.0)) own c.requires.0 c.requires.3 (sym c.belongs_to.ensures ∙ c.if-not-belongs_to.false), tt)
 
 pub returns : goal.returns
 returns c =
-    let own = c.in_ok-refuse_at.ensures ∙ ap (λ (n : ℕ). refuse n (c.args.i + 1)) c.judge_member.ensures in
+    let own = refused_at _ _ _ c.in_ok-refuse_at.ensures ∙ ap (λ (n : ℕ). refuse n (c.args.i + 1)) c.judge_member.ensures in
     (at_member c.args.file.now c.args.state _ _ c.args.i c.record_at-head.ensures.read c.part-before.ensures.records (as_record c.args.m) c.requires.2 c.requires.1 none own c.requires.0 c.requires.3 (sym c.belongs_to.ensures ∙ c.if-not-belongs_to.false), omega arith)

@@ -63,22 +63,22 @@ module _ (c : In-Some) where
   wide : Wide (as_start c.args.start)
   wide = search rules
 
-  begun : Begun (as_plan c.args.self.now.walk.plan) (length c.args.self.now.walk.plan.order.now) c.in-Some.t
-  begun = going_begun c.args.self.now.walking (as_start c.args.start) wide c.requires c.in-Some.t (sym c.in-Some.ensures)
+  begun : Begun (as_plan c.args.self.now.walk.plan) (length c.args.self.now.walk.plan.order.now) c.in-Some.tuple
+  begun = going_begun c.args.self.now.walking (as_start c.args.start) wide c.requires c.in-Some.tuple (sym c.in-Some.ensures)
 
-  front_long : length (take (length c.args.self.now.walk.plan.order.now) c.in-Some.t) ≡ length c.args.self.now.walk.plan.order.now
-  front_long = length-take-le (length c.args.self.now.walk.plan.order.now) c.in-Some.t (omega (arith, begun.long, c.args.self.now.walking.planned.plan-in.places.few))
+  front_long : length (take (length c.args.self.now.walk.plan.order.now) c.in-Some.tuple) ≡ length c.args.self.now.walk.plan.order.now
+  front_long = length-take-le (length c.args.self.now.walk.plan.order.now) c.in-Some.tuple (omega (arith, begun.long, c.args.self.now.walking.planned.plan-in.places.few))
 
   -- what is due
-  due_is : due_tuples (as_engine c.args.self.now.engine) (decoded c.args.self.now.walk.plan.file.now) (as_start c.args.start) ≡ from_tuple (as_plan c.args.self.now.walk.plan) (take (length c.args.self.now.walk.plan.order.now) c.in-Some.t)
-  due_is = going_due c.args.self.now.walking (as_start c.args.start) wide c.requires c.in-Some.t (sym c.in-Some.ensures)
+  due_is : due_tuples (as_engine c.args.self.now.engine) (decoded c.args.self.now.walk.plan.file.now) (as_start c.args.start) ≡ from_tuple (as_plan c.args.self.now.walk.plan) (take (length c.args.self.now.walk.plan.order.now) c.in-Some.tuple)
+  due_is = going_due c.args.self.now.walking (as_start c.args.start) wide c.requires c.in-Some.tuple (sym c.in-Some.ensures)
 
 pub pick_row-requires : goal.pick_row-requires
 pick_row-requires c =
     let t = (goal.at.pick_row-requires c).In-Some in
     let plan = c.args.self.now.walk.plan in
     let places = c.args.self.now.walking.planned.plan-in.places in
-    (picked_in plan.file.now plan.scratch.now plan.lists.now plan.maps.now plan.order.now places (take (length plan.order.now) c.in-Some.t) (begun t).placed, length-take-le (length plan.order.now) (replicate 32 (pos 0)) places.few ∙ sym (front_long t))
+    (picked_in plan.file.now plan.scratch.now plan.lists.now plan.maps.now plan.order.now places (take (length plan.order.now) c.in-Some.tuple) (begun t).placed, length-take-le (length plan.order.now) (replicate 32 (pos 0)) places.few ∙ sym (front_long t))
 
 pub loop-out-init : goal.loop-out-init
 loop-out-init c =
@@ -86,7 +86,7 @@ loop-out-init c =
     let plan = c.args.self.now.walk.plan in
     let places = c.args.self.now.walking.planned.plan-in.places in
     let m = length plan.order.now in
-    let u = take m c.in-Some.t in
+    let u = take m c.in-Some.tuple in
     let row = c.pick_row.new.row in
     let rest = drop m (replicate 32 (pos 0)) in (
       writing_none _ _ _ _ _,
@@ -119,7 +119,7 @@ module _ (c : At-loop-out) where
   wide_words : length c.args.self.now.walk.plan.order.now + 4 ≡ words_of (length (decoded c.args.self.now.walk.plan.file.now).fields)
   wide_words = ap words_of (walking_wide c.args.self.now.walking)
 
-  next : drop c.loop-out.count (from_tuple (as_plan c.args.self.now.walk.plan) (take (length c.args.self.now.walk.plan.order.now) c.in-Some.t))
+  next : drop c.loop-out.count (from_tuple (as_plan c.args.self.now.walk.plan) (take (length c.args.self.now.walk.plan.order.now) c.in-Some.tuple))
       ≡ take (length c.args.self.now.walk.plan.order.now) c.loop-out.tuple ∷ cond (has_tuple_after (as_plan c.args.self.now.walk.plan) (take (length c.args.self.now.walk.plan.order.now) c.loop-out.tuple)) (from_tuple (as_plan c.args.self.now.walk.plan) (tuple_after (as_plan c.args.self.now.walk.plan) (take (length c.args.self.now.walk.plan.order.now) c.loop-out.tuple))) []
   next = going_next c.args.self.now.walking _ c.loop-out.count c.loop-out.tuple c.loop-out.raw c.loop-out.invariant.1
 
@@ -152,7 +152,7 @@ turned : (c : After-write_verdict)
     → ChosenFrom c.args.self.now.walk.plan.file.now (rules_of c.args.self.now.groups.heads.now (length c.args.self.now.walk.plan.order.now) c.args.self.now.groups.constraints) 0 is_enabling (take c.enables_of-many.result c.enables_of-many.new.numbers)
     → length c.loop-out.out ≡ length c.args.out.now
     → Writing (words_in c.args.self.now.walk.plan.file.now c.args.self.now.groups.heads.now (length c.args.self.now.walk.plan.order.now) c.args.self.now.groups.constraints (as_plan c.args.self.now.walk.plan).lists (take c.enables_of-many.result c.enables_of-many.new.numbers)) (length c.args.self.now.walk.plan.order.now + 4) c.args.out.now
-    (from_tuple (as_plan c.args.self.now.walk.plan) (take (length c.args.self.now.walk.plan.order.now) c.in-Some.t)) c.start_tuple-last.result (c.loop-out.at + (length c.args.self.now.walk.plan.order.now + 4)) (c.loop-out.count + 1) c.loop-out.tuple
+    (from_tuple (as_plan c.args.self.now.walk.plan) (take (length c.args.self.now.walk.plan.order.now) c.in-Some.tuple)) c.start_tuple-last.result (c.loop-out.at + (length c.args.self.now.walk.plan.order.now + 4)) (c.loop-out.count + 1) c.loop-out.tuple
     (put_mid c.loop-out.at (c.loop-out.at + (length c.args.self.now.walk.plan.order.now + 4) - c.loop-out.at) c.loop-out.out c.write_verdict.new.out)
 turned c ch ki wide =
     let self = c.args.self.now in
@@ -164,7 +164,7 @@ turned c ch ki wide =
     let new = c.write_verdict.ensures ∙ ap (λ (row : List ℤ). words (evaluate (decoded self.walk.plan.file.now) (forced_row self.walk.plan.file.now (rules_of self.groups.heads.now m self.groups.constraints) enables row))) l.invariant.1.stands.row_is in
     let room : l.at + (m + 4) ≤ length c.args.out.now = omega (arith, c.if-out-at.false, wide, l.invariant.0.within) in
     let st = writing_turn _ _ _ _ _ l.at l.count l.last l.out l.invariant.0 (take m l.tuple) _ c.write_verdict.new.out (going_next w _ l.count l.tuple l.raw l.invariant.1) new (words_long w enables ch ki l.tuple (take m l.raw) begun l.invariant.1.stands) (omega arith) room in
-    subst (λ (t : List ℕ). Writing (words_in self.walk.plan.file.now self.groups.heads.now m self.groups.constraints (as_plan self.walk.plan).lists enables) (m + 4) c.args.out.now (from_tuple (as_plan self.walk.plan) (take m c.in-Some.t)) c.start_tuple-last.result (l.at + (m + 4)) (l.count + 1) t (put_mid l.at (l.at + (m + 4) - l.at) l.out c.write_verdict.new.out))
+    subst (λ (t : List ℕ). Writing (words_in self.walk.plan.file.now self.groups.heads.now m self.groups.constraints (as_plan self.walk.plan).lists enables) (m + 4) c.args.out.now (from_tuple (as_plan self.walk.plan) (take m c.in-Some.tuple)) c.start_tuple-last.result (l.at + (m + 4)) (l.count + 1) t (put_mid l.at (l.at + (m + 4) - l.at) l.out c.write_verdict.new.out))
     (sym (going_padded w l.tuple begun)) st
 
 pub returns-then-not-step : goal.returns-then-not-step
@@ -194,13 +194,13 @@ loop-out-preserved c =
     )
 
 -- No tuple is due.
-pub returns-in-None : goal.returns-in-None
-returns-in-None c =
+pub returns-in_default : goal.returns-in_default
+returns-in_default c =
     let w = c.args.self.now.walking in
     let engine = as_engine c.args.self.now.engine in
     let s = decoded c.args.self.now.walk.plan.file.now in
     let begun : Wide (as_start c.args.start) = search rules in
-    let over = going_over w (as_start c.args.start) begun c.requires (sym c.in-None.ensures) in
+    let over = going_over w (as_start c.args.start) begun c.requires (sym c.first_from.ensures ∙ c.in_default.is) in
     let k = length c.args.self.now.walk.plan.order.now + 4 in
     let st = subst (λ (t : List ℕ). Writing (λ u. words (verdict_of engine s u)) k c.args.out.now (due_tuples engine s (as_start c.args.start)) (start_tuple (as_start c.args.start)) 0 0 t c.args.out.now) (sym c.start_tuple-last.ensures) (writing_none (λ u. words (verdict_of engine s u)) k c.args.out.now (due_tuples engine s (as_start c.args.start)) (start_tuple (as_start c.args.start))) in
     let e = page_finished engine s (as_start c.args.start) k (ap words_of (walking_wide w)) c.args.out.now (due_tuples engine s (as_start c.args.start)) 0 0 c.start_tuple-last.result c.args.out.now st over in
