@@ -101,7 +101,7 @@ fn with_kinds<F: Fn(Kind) -> bool>(
     count
 }
 
-// At most 257 heads and room for 256 numbers, also in evaluate: numbers are u8; in `Rules` it would be asked of those that number nothing.
+// At most 257 heads and room for 256 numbers, also in evaluate: numbers are u8; in `Rules` it would be asked of those that number nothing, and an array as the type would ask more than a slice that is as long.
 // Writes the numbers of the enable records in the order in which they force: structural in file order, exhaustive all enable_mask first, then all enable_set. How many there are.
 pub fn enables_of(engine: Engine, rules: Rules, numbers: &mut [u8]) -> usize
     requires { (length rules.heads.now ≤ 257) × (length numbers.old ≡ 256) }
