@@ -6,7 +6,7 @@ use Rattle.spec.specs.Record.{decoded}
 use Rattle.compose.specs.Code.{ChosenFrom, EnablesIn, Stands, as_engine, chosen_in, constraints_in, enables_of, is_enabling}
 use Rattle.compose.specs.Plans.{as_plan}
 use Rattle.compose.specs.Walk.{has_tuple_after, tuple_after}
-use Rattle.compose.proofs.Stepping.{pick_in, picked_front, picked_long, stands_picked}
+use Rattle.compose.proofs.Stepping.{picked_front, picked_in, picked_long, stands_picked}
 use Rattle.compose.proofs.Walk.{from_tuple}
 use Rattle.evaluate.specs.Verdict.{evaluate}
 use Rattle.classifier.specs.Code.{EnablesAre, as_start, forced_row, rules_of}
@@ -78,7 +78,7 @@ pick_row-requires c =
     let t = (goal.at.pick_row-requires c).In-Some in
     let plan = c.args.self.now.walk.plan in
     let places = c.args.self.now.walking.planned.plan-in.places in
-    (front_long t, pick_in plan.file.now plan.scratch.now plan.lists.now plan.maps.now plan.order.now places (take (length plan.order.now) c.in-Some.tuple) (begun t).placed, length-take-le (length plan.order.now) (replicate 32 (pos 0)) places.few ∙ sym (front_long t))
+    (picked_in plan.file.now plan.scratch.now plan.lists.now plan.maps.now plan.order.now places (take (length plan.order.now) c.in-Some.tuple) (begun t).placed, length-take-le (length plan.order.now) (replicate 32 (pos 0)) places.few ∙ sym (front_long t))
 
 pub loop-out-init : goal.loop-out-init
 loop-out-init c =
