@@ -38,7 +38,7 @@ fn is_long(rules: Rules, k: usize, least: usize) -> bool
     is_listed(kind_at(rules.file, head)) & (least < members)
 }
 
-// One of the constraints that list members has more than 16 of them.
+// One of the constraints whose members a value is looked for in has more than 16 members.
 pub fn has_long(rules: Rules) -> bool
     ensures { result ≡ any (is_long_at rules.entry.file.now rules.entry.heads.now) (upto (length rules.entry.heads.now - 1)) }
 {
