@@ -1,27 +1,23 @@
 -- The groups that heads stand for, one by one; the numbers chosen among them by kind; and the enable records so chosen.
 use mathlib.Core.Bool.{Bool, ◌||◌, cond, false, true}
-use mathlib.Core.List.{List, [], ◌++◌, ◌∷◌, append_assoc, append-nil}
-use mathlib.Core.Logic.{◌⊎◌, inl, inr}
+use mathlib.Core.List.{List, [], ◌++◌, ◌∷◌, append_assoc}
 use mathlib.Core.Path.{◌∙◌, ◌≡◌, ap, ap₂, refl, subst, sym}
-use Prim.Native.Nat.{◌+◌, ◌<◌, ◌≤◌, suc, ℕ}
-use native.Mathlib.Nat.{add-zero}
-use native.Mathlib.Numerals.{add-one}
+use Prim.Native.Nat.{◌+◌, ◌-◌, ◌<◌, ◌≤◌, suc, zero, ℕ}
 use native.Mathlib.Omega.{arith}
 use lib.Dec.{ltb}
-use lib.ListN.{drop, get_or, length, length-append, length-set, length-take, set, take}
-use lib.Seq.{get_or-append_seam, get_or-take, length-take-le, take-set-le, take-suc-set}
-use Rattle.lists.specs.Lists.{concat_map, cons_if, count_if, filter}
-use Rattle.lists.proofs.All.{All_imp, filter-all}
-use Rattle.lists.proofs.Lists.{concat_map_append, count_if_le, count_if_or, filter_append, filter_every, get_d_left}
+use lib.ListN.{drop, get_or, length, length-append, length-take, take}
+use lib.Seq.{drop-append_seam, get_or-take, length-take-le, take-append_seam}
+use Rattle.lists.specs.Lists.{concat_map, cons_if, count_if, suc_if, filter, over, span, upto}
+use Rattle.lists.proofs.All.{All_at, All_imp, All-filter, filter-all, upto-below}
+use Rattle.lists.proofs.Lists.{concat_map_append, count_if_le, count_if_or, filter_append, filter_every, get_d_right}
 use Rattle.lists.proofs.Tests.{no_ge, or_true, yes_lt}
 use Rattle.spec.specs.Kind.{ConstraintKind, Kind, bitmask, constraint, cross, enable_mask, enable_set, eq, even, field, ge, gt, le, lt, member, neq, oneof, projector, range, unknown}
 use Rattle.spec.specs.Record.{Group, Record, constraint_by, constraint_in, constraint_of, group, record_at}
 use Rattle.spec.specs.Spec.{ConstraintSpec, Enabling, by_mask, by_set}
 use Rattle.registry.specs.Code.{group_in}
-use Rattle.compose.specs.Code.{ChosenFrom, KindAt, KindTest, chosen_in, constraints_in, enables_of, groups_from, groups_in, has_kind, is_enable, is_enabling, is_mask, is_set, marks_by}
+use Rattle.compose.specs.Code.{ChosenFrom, KindAt, KindTest, Taken, chosen_in, constraints_in, enables_of, groups_from, groups_in, has_kind, is_enable, is_enabling, is_mask, is_set, marks_by}
 use Rattle.compose.specs.Force.{enables, forcing_order}
 use Rattle.compose.specs.Tuples.{exhaustive, structural}
-use Rattle.compose.proofs.Narrowing.{rest_turn}
 use Rattle.compose.proofs.Positions.{groups_end, groups_turn}
 
 length_from : (file : List ℕ) (head : ℕ) (rest : List ℕ) → length (groups_from file head rest) ≡ length rest
@@ -33,117 +29,70 @@ groups-few file [] n h = omega arith
 groups-few file (head ∷ rest) n h = let e = length_from file head rest in omega arith
 
 -- ---- the numbers of heads of the kinds that pass a test, put behind those there before
-module _ (file heads : List ℕ) (test : KindTest) (old : List ℕ) (before : ℕ) where
-  -- The groups before number j were looked at.
-  pub record Picked (numbers : List ℕ) (count j : ℕ) : Type 0 where
-    pub long : length numbers ≡ length old
-    pub more : before ≤ count
-    pub counted : count + count_if (has_kind test) (groups_in file (drop j heads)) ≡ before + count_if (has_kind test) (groups_in file heads)
-    pub chosen : chosen_in file heads (take count numbers) ++ concat_map constraint_of (filter (has_kind test) (groups_in file (drop j heads))) ≡ chosen_in file heads (take before old) ++ concat_map constraint_of (filter (has_kind test) (groups_in file heads))
-    pub kept : take before numbers ≡ take before old
-    pub kinds : ChosenFrom file heads before test (take count numbers)
-    pub rest : drop count numbers ≡ drop count old
+module _ (file heads : List ℕ) (test : KindTest) where
+  -- Number k is of such a head.
+  abbrev pub kind_passes : ℕ → Bool
+  kind_passes k = has_kind test (group_in file (get_or heads k 0) (get_or heads (suc k) 0))
 
-  pub picked_start : before ≤ length old → Picked old before 0
-  picked_start h = record {
-    long = refl;
-    more = omega arith;
-    counted = refl;
-    chosen = refl;
-    kept = refl;
-    kinds = λ i p q. absurd (let e = length-take-le before old h in omega arith);
-    rest = refl;
-  }
+  -- The d heads from j on.
+  abbrev Passed : ℕ → ℕ → Type 0
+  Passed d j = (chosen_in file heads (filter kind_passes (span j d)) ≡ concat_map constraint_of (filter (has_kind test) (groups_in file (drop j heads)))) × (length (filter kind_passes (span j d)) ≡ count_if (has_kind test) (groups_in file (drop j heads)))
 
-  module _ (numbers : List ℕ) (count j : ℕ) (p : Picked numbers count j) where
-    -- A head of a kind that does not.
-    picked_no : suc j < length heads → has_kind test (group_in file (get_or heads j 0) (get_or heads (suc j) 0)) ≡ false → Picked numbers count (suc j)
-    picked_no h e =
-        let g = groups_turn file heads j h in
-        let q : filter (has_kind test) (groups_in file (drop j heads)) ≡ filter (has_kind test) (groups_in file (drop (suc j) heads)) = rw (g, e) in
-        let n : count_if (has_kind test) (groups_in file (drop j heads)) ≡ count_if (has_kind test) (groups_in file (drop (suc j) heads)) = rw (g, e) in
-        record {
-          long = p.long;
-          more = p.more;
-          counted = ap (λ (i : ℕ). count + i) (sym n) ∙ p.counted;
-          chosen = ap (λ gs. chosen_in file heads (take count numbers) ++ concat_map constraint_of gs) (sym q) ∙ p.chosen;
-          kept = p.kept;
-          kinds = p.kinds;
-          rest = p.rest;
-        }
+  passed : (d j : ℕ) → length heads - suc j ≡ d → Passed d j
+  passed zero j h = rw (groups_end file heads j (omega arith)) (refl, refl)
+  passed (suc d) j h = rw (groups_turn file heads j (omega arith)) (go (kind_passes j) (passed d (suc j) (omega arith)))
+    where
+      here : List ConstraintSpec
+      here = constraint_of (group_in file (get_or heads j 0) (get_or heads (suc j) 0))
 
-    module _ (h : suc j < length heads) (e : has_kind test (group_in file (get_or heads j 0) (get_or heads (suc j) 0)) ≡ true) where
-      one_more : count_if (has_kind test) (groups_in file (drop j heads)) ≡ suc (count_if (has_kind test) (groups_in file (drop (suc j) heads)))
-      one_more = rw (groups_turn file heads j h, e)
+      gs : List Group
+      gs = groups_in file (drop (suc j) heads)
 
-      pub picked_room : before + count_if (has_kind test) (groups_in file heads) ≤ length old → count < length old
-      picked_room room = let n = one_more in let m = p.counted in omega arith
+      go : (b : Bool) → Passed d (suc j)
+          → (chosen_in file heads (cons_if b j (filter kind_passes (span (suc j) d))) ≡ concat_map constraint_of (cons_if b (group_in file (get_or heads j 0) (get_or heads (suc j) 0)) (filter (has_kind test) gs)))
+          × (length (cons_if b j (filter kind_passes (span (suc j) d))) ≡ suc_if b (count_if (has_kind test) gs))
+      go true r = (ap (λ l. here ++ l) r.0, ap suc r.1)
+      go false r = r
 
-      -- A head of a kind that passes.
-      picked_yes : count < length old → Picked (set numbers count j) (count + 1) (suc j)
-      picked_yes free = record {
-        long = length-set numbers count j ∙ p.long;
-        more = let m = p.more in omega arith;
-        counted = let n = one_more in let m = p.counted in omega arith;
-        chosen = chosen_more;
-        kept = take-set-le before numbers count j p.more ∙ p.kept;
-        kinds = subst (ChosenFrom file heads before test) (sym taken) kinds_more;
-        rest = rest_turn old numbers count p.rest j;
-      }
-        where
-          inside : count < length numbers
-          inside = let l = p.long in omega arith
+  -- There are as many as heads.
+  pub passed_many : length (filter kind_passes (upto (length heads - 1))) ≡ count_if (has_kind test) (groups_in file heads)
+  passed_many = (passed (length heads - 1) 0 refl).1
 
-          taken : take (count + 1) (set numbers count j) ≡ take count numbers ++ (j ∷ [])
-          taken = ap (λ (i : ℕ). take i (set numbers count j)) (add-one count) ∙ take-suc-set numbers count j inside
+  module _ (old new : List ℕ) (before count : ℕ) (room : before ≤ length old)
+      (w : new ≡ over (take before old ++ filter kind_passes (upto (length heads - 1))) old) (n : count ≡ before + length (filter kind_passes (upto (length heads - 1)))) where
+    abbrev numbers : List ℕ
+    numbers = filter kind_passes (upto (length heads - 1))
 
-          done : List ConstraintSpec
-          done = chosen_in file heads (take count numbers)
+    abbrev all : List ℕ
+    all = take before old ++ numbers
 
-          here : List ConstraintSpec
-          here = constraint_of (group_in file (get_or heads j 0) (get_or heads (suc j) 0))
+    first : length (take before old) ≡ before
+    first = length-take-le before old room
 
-          rest : List ConstraintSpec
-          rest = concat_map constraint_of (filter (has_kind test) (groups_in file (drop (suc j) heads)))
+    long : count ≡ length all
+    long = n ∙ sym (length-append (take before old) numbers ∙ ap (λ (i : ℕ). i + length numbers) first)
 
-          whole : concat_map constraint_of (filter (has_kind test) (groups_in file (drop j heads))) ≡ here ++ rest
-          whole = rw (groups_turn file heads j h, e)
+    front : take count new ≡ all
+    front = ap (take count) w ∙ ap (λ (i : ℕ). take i (over all old)) long ∙ take-append_seam all (drop (length all) old)
 
-          chosen_more : chosen_in file heads (take (count + 1) (set numbers count j)) ++ rest ≡ chosen_in file heads (take before old) ++ concat_map constraint_of (filter (has_kind test) (groups_in file heads))
-          chosen_more =
-              ap (λ l. chosen_in file heads l ++ rest) taken
-              ∙ ap (λ l. l ++ rest) (concat_map_append (λ k. constraint_of (group_in file (get_or heads k 0) (get_or heads (suc k) 0))) (take count numbers) (j ∷ []))
-              ∙ append_assoc done (here ++ []) rest ∙ ap (λ l. done ++ (l ++ rest)) (append-nil here) ∙ ap (λ l. done ++ l) (sym whole) ∙ p.chosen
-
-          long_taken : length (take count numbers) ≡ count
-          long_taken = let l = inside in length-take-le count numbers (omega arith)
-
-          kinds_more : ChosenFrom file heads before test (take count numbers ++ (j ∷ []))
-          kinds_more i q l = go (ltb i count) refl
-            where
-              go : (t : Bool) → ltb i count ≡ t → KindAt file heads test (get_or (take count numbers ++ (j ∷ [])) i 0)
-              go true t = let m = yes_lt i count t in subst (KindAt file heads test) (sym (get_d_left (take count numbers) (j ∷ []) 0 i long_taken m)) (p.kinds i q (let k = long_taken in omega arith))
-              go false t =
-                  let m = no_ge i count t in
-                  let w = length-append (take count numbers) (j ∷ []) in
-                  let z : i ≡ length (take count numbers) = let k = long_taken in omega arith in
-                  subst (KindAt file heads test) (sym (ap (λ (x : ℕ). get_or (take count numbers ++ (j ∷ [])) x 0) z ∙ get_or-append_seam (take count numbers) j [] 0)) (record { number = h; kind = e })
-
-    -- One more head was looked at: t is whether its kind passes.
-    pub picked_turn : suc j < length heads → (numbers' : List ℕ) (count' : ℕ) (t : Bool) → has_kind test (group_in file (get_or heads j 0) (get_or heads (suc j) 0)) ≡ t
-        → ((t ≡ true) × (count < length old) × (numbers' ≡ set numbers count j) × (count' ≡ count + 1)) ⊎ ((t ≡ false) × (numbers' ≡ numbers) × (count' ≡ count)) → Picked numbers' count' (suc j)
-    picked_turn h numbers' count' t e (inl (y, f, n, m)) = rw (n, m) (picked_yes h (e ∙ y) f)
-    picked_turn h numbers' count' t e (inr (y, n, m)) = rw (n, m) (picked_no h (e ∙ y))
-
-    -- None is left.
-    pub picked_end : length heads ≤ suc j
-        → (count ≡ before + count_if (has_kind test) (groups_in file heads))
-        × (chosen_in file heads (take count numbers) ≡ chosen_in file heads (take before old) ++ concat_map constraint_of (filter (has_kind test) (groups_in file heads)))
-    picked_end h =
-        let g = groups_end file heads j h in
-        let n : count_if (has_kind test) (groups_in file (drop j heads)) ≡ 0 = rw g in
-        let q : concat_map constraint_of (filter (has_kind test) (groups_in file (drop j heads))) ≡ [] = rw g in
-        (sym (ap (λ (i : ℕ). count + i) n ∙ add-zero count) ∙ p.counted, sym (ap (λ l. chosen_in file heads (take count numbers) ++ l) q ∙ append-nil (chosen_in file heads (take count numbers))) ∙ p.chosen)
+    pub taken : Taken file heads test before old count new
+    taken = record {
+      counted = n ∙ ap (λ (i : ℕ). before + i) passed_many;
+      chosen = ap (chosen_in file heads) front ∙ concat_map_append (λ k. constraint_of (group_in file (get_or heads k 0) (get_or heads (suc k) 0))) (take before old) numbers
+          ∙ ap (λ l. chosen_in file heads (take before old) ++ l) (passed (length heads - 1) 0 refl).0;
+      kept = ap (take before) (w ∙ append_assoc (take before old) numbers (drop (length all) old)) ∙ ap (λ (i : ℕ). take i (take before old ++ (numbers ++ drop (length all) old))) (sym first) ∙ take-append_seam (take before old) (numbers ++ drop (length all) old);
+      kinds = subst (ChosenFrom file heads before test) (sym front) kinds_in;
+      rest = ap (drop count) w ∙ ap (λ (i : ℕ). drop i (over all old)) long ∙ drop-append_seam all (drop (length all) old) ∙ ap (λ (i : ℕ). drop i old) (sym long);
+    }
+      where
+        kinds_in : ChosenFrom file heads before test all
+        kinds_in j h l =
+            let i = j - before in
+            let e : before + i ≡ j = omega arith in
+            let inside : i < length numbers = omega (arith, e, first, length-append (take before old) numbers) in
+            let at : get_or numbers i 0 ≡ get_or all j 0 = sym (get_d_right (take before old) numbers 0 i first) ∙ ap (λ (x : ℕ). get_or all x 0) e in
+            let below = All_at 0 numbers (All-filter kind_passes (upto-below (length heads - 1))) i inside in
+            subst (KindAt file heads test) at (record { number = omega arith; kind = All_at 0 numbers (filter-all kind_passes (upto (length heads - 1))) i inside })
 
 -- ---- the enable records are the heads of their kinds
 marks_all : (e : Enabling) (k : ConstraintKind) (h : Record) (ms : List Record) → enables e (constraint_by k h ms) ≡ marks_by e k

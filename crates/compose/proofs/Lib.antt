@@ -20,6 +20,7 @@ pub mod Narrowing
 pub mod Positions
 pub mod Grouped
 pub mod Opening
+pub mod Picking
 pub mod Planning
 pub mod Packed
 pub mod Bounds

@@ -49,7 +49,7 @@ fn compact<F: Fn(Value) -> bool>(list: &mut [i64], passes: F) -> usize
     kept
 }
 
-// Not one function with `compact`: that would take the next index as its parameter, and count here what is a search below.
+// Not one function with `compact`, which tries each value: what gives the next index would be a parameter, and there no more than `i + 1`.
 // Moves the values of a list that ascends that are among the items to the front, item by item; how many they are.
 fn compact_ascending(list: &mut [i64], items: IndexedRun) -> usize
     requires { is_ascending list.old ≡ true }
@@ -108,6 +108,7 @@ fn narrow_by(rules: Rules, k: usize, f: usize, list: &mut [i64]) -> usize
     }
     let run = part(file, head + 1, rules.heads[k + 1]);
     let kind = h.kind;
+    // Two arms that are alike: each names its kind, so that in its loop `meets` is one test and no match.
     let met = match kind {
         Kind::Range => compact(list, |v| meets(Kind::Range, h.p, h.q, run, v)),
         Kind::Oneof => compact_items(list, run),
@@ -144,7 +145,7 @@ fn lay_list(rules: Rules, head: usize, end: usize, f: usize, list: &mut [i64]) -
 }
 
 // Lays the lists of the fields one behind the other, by the constraints given of their file, and zeros to the end. In lists, where that of each field lies.
-pub(crate) fn lay_lists(rules: Rules, fields: &[usize], scratch: &mut [i64], lists: &mut [Span])
+pub(crate) fn lay_lists(rules: Rules, fields: &[usize], scratch: &mut [i64], lists: &mut [Span; 32])
     requires { (length fields.now ≤ 33) × FieldsIn rules.file.now fields.now × (sum_n (map (λ d. length (domain d)) (fields_in rules.file.now fields.now)) ≤ length scratch.old) × (lists.old ≡ replicate 32 (span_of 0 0)) }
     ensures scratch { scratch.new ≡ packed_lists (lists_by (constraints_in rules.entry.file.now rules.entry.heads.now) (fields_in rules.entry.file.now fields.now)) (length scratch.old) }
     ensures lists { lists.new ≡ list_places (map length (lists_by (constraints_in rules.entry.file.now rules.entry.heads.now) (fields_in rules.entry.file.now fields.now))) }

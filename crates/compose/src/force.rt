@@ -1,15 +1,15 @@
 // Forcing: when field a holds p, disable writes 0 and assign writes its value.
-ghost use Rattle.std.specs.Prelude.{◌≡◌, ◌+◌, ◌≤◌, ◌<◌, drop, length, take};
+ghost use Rattle.std.specs.Prelude.{◌≡◌, ◌≤◌, ◌<◌, drop, length, take};
 ghost use mathlib.Core.List.{foldl, map};
-ghost use Rattle.lists.specs.Lists.{count_if};
 ghost use Rattle.lists.proofs.All.{All};
 ghost use Rattle.spec.specs.Code.{as_kind};
 ghost use Rattle.spec.specs.Record.{assignment_of, constraint_of, records_of};
 ghost use Rattle.registry.specs.Code.{group_in};
 ghost use Rattle.compose.specs.Force.{force_by, write};
-ghost use Rattle.compose.specs.Code.{as_engine, chosen_in, constraints_in, enables_of, EnableIn, EnablesIn, groups_in, has_kind, is_enabling, is_forced, is_mask, is_set, ChosenFrom, KindTest, Taken, TestIs};
+ghost use Rattle.compose.specs.Code.{as_engine, chosen_in, constraints_in, enables_of, EnableIn, EnablesIn, is_enabling, is_forced, is_mask, is_set, ChosenFrom};
 
 use crate::groups::Rules;
+use crate::numbers::choose;
 use spec::domains::part;
 use spec::kinds::Kind;
 use spec::records::{a_at, kind_at, p_at};
@@ -81,27 +81,7 @@ pub fn is_enabling(kind: Kind) -> bool
     matches!(kind, Kind::EnableMask | Kind::EnableSet)
 }
 
-// Behind the first `before` numbers, writes those of the heads of the kinds chosen; how many numbers there are then.
-fn with_kinds<F: Fn(Kind) -> bool>(
-    rules: Rules,
-    is_chosen: F,
-    before: usize,
-    numbers: &mut [u8],
-) -> usize
-    requires { F.IsAlwaysCallable is_chosen × (length rules.heads.now ≤ 257) × ((test : KindTest) × TestIs (F.post is_chosen) test × (before + count_if (has_kind test) (groups_in rules.file.now rules.heads.now) ≤ length numbers.old)) }
-    ensures { (test : KindTest) → TestIs (F.post is_chosen) test → Taken rules.entry.file.now rules.entry.heads.now test before numbers.old result numbers.new }
-{
-    let mut count = before;
-    for k in 0..rules.count() {
-        if is_chosen(kind_at(rules.file, rules.heads[k])) {
-            numbers[count] = k as u8;
-            count += 1;
-        }
-    }
-    count
-}
-
-// At most 257 heads and room for 256 numbers, also in evaluate: numbers are u8; in `Rules` it would be asked of those that number nothing.
+// At most 257 heads and room for 256 numbers, also in evaluate: numbers are u8; in `Rules` it would be asked of those that number nothing, and an array as the type would ask more than a slice that is as long.
 // Writes the numbers of the enable records in the order in which they force: structural in file order, exhaustive all enable_mask first, then all enable_set. How many there are.
 pub fn enables_of(engine: Engine, rules: Rules, numbers: &mut [u8]) -> usize
     requires { (length rules.heads.now ≤ 257) × (length numbers.old ≡ 256) }
@@ -109,11 +89,27 @@ pub fn enables_of(engine: Engine, rules: Rules, numbers: &mut [u8]) -> usize
     ensures kinds { (result ≤ 256) × ChosenFrom rules.entry.file.now rules.entry.heads.now 0 is_enabling (take result numbers.new) }
     ensures rest { drop result numbers.new ≡ drop result numbers.old }
 {
+    let many = rules.count();
     match engine {
-        Engine::Structural => with_kinds(rules, is_enabling, 0, numbers),
+        Engine::Structural => choose(
+            many,
+            |k| is_enabling(kind_at(rules.file, rules.heads[k])),
+            0,
+            numbers,
+        ),
         Engine::Exhaustive => {
-            let masks = with_kinds(rules, is_mask, 0, numbers);
-            with_kinds(rules, is_set, masks, numbers)
+            let masks = choose(
+                many,
+                |k| is_mask(kind_at(rules.file, rules.heads[k])),
+                0,
+                numbers,
+            );
+            choose(
+                many,
+                |k| is_set(kind_at(rules.file, rules.heads[k])),
+                masks,
+                numbers,
+            )
         }
     }
 }

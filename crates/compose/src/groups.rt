@@ -1,5 +1,5 @@
 // The groups of a file by the records at which they start: its fields, its constraints, its projector.
-ghost use Rattle.std.specs.Prelude.{◌≡◌, ◌+◌, suc, drop, get_or, take};
+ghost use Rattle.std.specs.Prelude.{◌≡◌, ◌+◌, ◌≤◌, suc, drop, get_or, take};
 ghost use Rattle.compose.specs.Code.{HeadsIn, Opened};
 ghost use Rattle.compose.specs.Props.{facts};
 
@@ -42,13 +42,15 @@ impl<'a> Groups<'a> {
         &self.heads[..k]
     }
 
-    // The constraints.
-    pub fn rules(self) -> Rules<'a>
+    // So many of the constraints, from the first on.
+    // That there are as many is the bound of the call's own index.
+    pub(crate) fn first_rules(self, count: usize) -> Rules<'a>
+        requires { count ≤ self.constraints }
         ensures file { (result.file.now ≡ self.entry.file.now) × (result.fields ≡ self.entry.fields) }
-        ensures heads { result.heads.now ≡ take (suc self.entry.constraints) (drop self.entry.fields self.entry.heads.now) }
+        ensures heads { result.heads.now ≡ take (suc count) (drop self.entry.fields self.entry.heads.now) }
     {
         let k = self.fields + 1;
-        let end = k + self.constraints;
+        let end = k + count;
         Rules {
             file: self.file,
             heads: &self.heads[self.fields..end],
@@ -56,17 +58,12 @@ impl<'a> Groups<'a> {
         }
     }
 
-    // None of them.
-    pub(crate) fn no_rules(self) -> Rules<'a>
+    // The constraints.
+    pub fn rules(self) -> Rules<'a>
         ensures file { (result.file.now ≡ self.entry.file.now) × (result.fields ≡ self.entry.fields) }
-        ensures heads { result.heads.now ≡ take 1 (drop self.entry.fields self.entry.heads.now) }
+        ensures heads { result.heads.now ≡ take (suc self.entry.constraints) (drop self.entry.fields self.entry.heads.now) }
     {
-        let k = self.fields + 1;
-        Rules {
-            file: self.file,
-            heads: &self.heads[self.fields..k],
-            fields: self.fields,
-        }
+        self.first_rules(self.constraints)
     }
 
     // The record at which the projector stands, where there is a field.

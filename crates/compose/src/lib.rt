@@ -9,6 +9,7 @@ pub mod groups;
 pub mod heads;
 pub mod maps;
 mod members;
+pub mod numbers;
 mod ordering;
 pub mod places;
 pub mod plan;

@@ -10,7 +10,7 @@ use spec::kinds::Kind;
 use spec::records::{a_at, b_at, kind_at};
 
 // Writes the last cross onto each field, in maps that has none.
-pub(crate) fn kept_maps(rules: Rules, maps: &mut [Option<KeptMap>])
+pub(crate) fn kept_maps(rules: Rules, maps: &mut [Option<KeptMap>; 32])
     requires { (rules.fields ≤ 32) × (maps.old ≡ replicate 32 None) }
     ensures maps { map (map_in rules.entry.file.now maps.new) (upto 32) ≡ map (kept_map (constraints_in rules.entry.file.now rules.entry.heads.now)) (upto 32) }
     ensures inside { MapsIn rules.entry.file.now maps.new rules.entry.fields }

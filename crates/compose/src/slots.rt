@@ -13,6 +13,7 @@ pub(crate) const REMAINDERS: usize = 16381;
 // Stands in the slot of several values, or of one too far behind for a number.
 const FULL: u16 = 65535;
 
+// Laid, a slot is a u16 and no `Slot`: all lie in fixed memory, 32 KiB on the stack, and an enum with a usize would take eight times that.
 // Where the values with a remainder stand in the list.
 #[derive(Clone, Copy)]
 pub(crate) enum Slot {

@@ -63,6 +63,7 @@ fn goes_by_keys(parents: Values, keys: usize) -> bool
     (keys <= parents.list().len()) & (parents.ascends() | (keys <= 24))
 }
 
+// Members, lists and cells go on one by one, here and below, and not in a struct: each function turns one of them into another type.
 // Does the task by the keys or by the parent's list, whichever is quicker.
 fn run_indexed<T: MapTask>(
     task: &T,

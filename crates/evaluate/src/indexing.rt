@@ -15,7 +15,7 @@ use spec::records::kind_at;
 // Room for the index of every file.
 pub const RECORDS: usize = 2048;
 
-// Members that are read through, where rows are asked about them.
+// As many members as this are read through, where rows are asked about them; more are worth an index.
 pub const LONG: usize = 16;
 
 // Fewer rows than these do not pay for an index.
@@ -38,7 +38,7 @@ fn is_long(rules: Rules, k: usize, least: usize) -> bool
     is_listed(kind_at(rules.file, head)) & (least < members)
 }
 
-// One of the constraints has more than 16; shorter ones are read through.
+// One of the constraints whose members a value is looked for in has more than 16 members.
 pub fn has_long(rules: Rules) -> bool
     ensures { result ≡ any (is_long_at rules.entry.file.now rules.entry.heads.now) (upto (length rules.entry.heads.now - 1)) }
 {
