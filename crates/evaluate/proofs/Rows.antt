@@ -2,7 +2,7 @@
 use mathlib.Core.Bool.{Bool, false, true}
 use mathlib.Core.List.{List, [], ◌++◌, ◌∷◌, map}
 use mathlib.Core.Path.{◌∙◌, ◌≡◌, ap, ap₂, refl, subst, sym}
-use Prim.Native.Nat.{◌+◌, ◌<◌, ◌≤◌, suc, zero, ℕ}
+use Prim.Native.Nat.{◌+◌, ◌<◌, suc, zero, ℕ}
 use native.Mathlib.Nat.{zero-add}
 use native.Mathlib.Numerals.{add-one}
 use native.Mathlib.Omega.{arith}
@@ -22,7 +22,7 @@ use Rattle.compose.specs.Tuples.{Engine, exhaustive, lists_of, structural, value
 use Rattle.compose.specs.Walk.{Placed, length_at, plan_of}
 use Rattle.compose.proofs.Allowed.{allowed-allows}
 use Rattle.compose.proofs.Laid.{field_group, field_at}
-use Rattle.compose.proofs.Positions.{groups_end, groups_turn}
+use Rattle.compose.proofs.Positions.{groups_turn}
 use Rattle.evaluate.specs.Code.{behind}
 use Rattle.evaluate.specs.Verdict.{field_checks}
 

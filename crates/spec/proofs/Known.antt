@@ -1,7 +1,7 @@
 -- A kind of the code that stands for a known kind is that one.
 use mathlib.Core.Path.{◌≡◌, ap, sym}
 use Rattle.spec.specs.Code.{as_kind}
-use Rattle.spec.specs.Kind.{ConstraintKind, Kind, MemberKind, ProjectorKind, constraint, field, member, projector, unknown, assign, axis, bitmask, cross, decompose, disable, enable_mask, enable_set, eq, even, ge, gt, identity, item, key, le, lt, neq, oneof, pair, parity, range, sum, value}
+use Rattle.spec.specs.Kind.{Kind, constraint, field, member, projector, unknown, assign, axis, bitmask, cross, decompose, disable, enable_mask, enable_set, eq, even, ge, gt, identity, item, key, le, lt, neq, oneof, pair, parity, range, sum, value}
 use Rattle.spec.specs.declared.kinds.Kind as code
 use Rattle.spec.specs.declared.kinds.Kind.TheVariants as kinds
 

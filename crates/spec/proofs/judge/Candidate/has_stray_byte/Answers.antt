@@ -1,4 +1,4 @@
-use Rattle.std.proofs.Common.{rules, ◌≡◌, to_z-of_z, w64, SFits, sym}
+use Rattle.std.proofs.Common.{rules, ◌≡◌, w64, SFits, sym}
 use lib.IntN.{pos}
 use Rattle.lists.proofs.Words.{eq_bits, zero_fits}
 use Rattle.spec.specs.Code.{as_use}
