@@ -85,6 +85,9 @@ module _ (l : List ℤ) where
   abbrev pub rises : ℕ → Bool
   rises k = le_z (get_or l k (pos 0)) (get_or l (suc k) (pos 0))
 
+  pub rises_at_lem : (i : ℕ) → 0 < i → le_z (get_or l (i - 1) (pos 0)) (get_or l i (pos 0)) ≡ rises (i - 1)
+  rises_at_lem i h = let e : i ≡ suc (i - 1) = omega arith in ap (λ (j : ℕ). le_z (get_or l (i - 1) (pos 0)) (get_or l j (pos 0))) e
+
   -- ---- a list that ascends
   module _ (up : is_ascending l ≡ true) where
     rising : (i d : ℕ) → i + d < length l → le_z (get_or l i (pos 0)) (get_or l (i + d) (pos 0)) ≡ true

@@ -1,10 +1,17 @@
 -- Pairs among the records that stand at places.
+use mathlib.Core.Bool.{◌&&◌, cond, true}
+use Prim.Native.Nat.{◌/◌}
+use lib.Dec.{eqb}
+use lib.ListN.{drop}
 use Rattle.std.proofs.Common.{◌∙◌, ◌≡◌, ◌||◌, ◌+◌, ◌-◌, ◌<◌, ◌≤◌, ap, refl, sym, arith, false, Bool, ℕ, suc, zero, List, [], ◌∷◌, ◌++◌, ℤ, length, map, replicate}
 use Rattle.lists.specs.Integers.{elem_z, eq_z}
 use Rattle.lists.specs.Lists.{any, span, upto}
 use Rattle.lists.proofs.Lists.{any_ext, map_append}
 use Rattle.lists.proofs.All.{All_of}
-use Rattle.spec.specs.Record.{Record}
+use Rattle.spec.specs.Record.{Record, entry_of, record_at, records_of}
+use Rattle.spec.specs.Spec.{Key, Pair}
+use Rattle.spec.proofs.Fields.{records_from}
+use Rattle.registry.specs.Check.{is_pair}
 use Rattle.registry.proofs.Looked.{eq_z-sym}
 use Rattle.compose.specs.Code.{between, marked, paired_at, pairs_at}
 use Rattle.compose.proofs.Tabled.{any_or, cells_no, cells_yes, row-none}
@@ -78,3 +85,34 @@ module _ (f : ℕ → Record) (v : ℤ) (list : List ℤ) where
 
     pub cells_other : ((w : ℤ) → pairs_at v w (f k) ≡ false) → cells_to low k ≡ cells_to low (k + 1)
     cells_other e = cells_no (pairs_at v) (map f (between low k)) (f k) e list ∙ cells_next
+
+-- ---- members read through
+-- A record is a pair of parent value v.
+abbrev pub pair_of : ℤ → Record → Bool
+pair_of v m = eqb m.code 4 && eq_z m.p v
+
+pair_is : (v w : ℤ) (m : Record) → is_pair v w (entry_of m) ≡ (pair_of v m && eq_z w m.q)
+pair_is v w m = go (eqb m.code 4)
+  where
+    go : (b : Bool) → is_pair v w (cond b (Pair m.p m.q) (Key m.p)) ≡ ((b && eq_z m.p v) && eq_z w m.q)
+    go true = ap (λ (t : Bool). t && eq_z w m.q) (eq_z-sym v m.p)
+    go false = refl
+
+-- Some value of the list is paired with v by one of the members.
+abbrev pub child_among : ℤ → List ℤ → List Record → Bool
+child_among v list ms = any (λ w. any (is_pair v w) (map entry_of ms)) list
+
+any_with : (t : Bool) (q : ℤ) (list : List ℤ) → any (λ w. t && eq_z w q) list ≡ (t && elem_z q list)
+any_with true q list = any_equal q list
+any_with false q list = any_false list
+
+child_of : (v : ℤ) (m : Record) (list : List ℤ) → any (λ w. is_pair v w (entry_of m)) list ≡ (pair_of v m && elem_z m.q list)
+child_of v m list = any_ext (All_of (λ w. pair_is v w m) list) ∙ any_with (pair_of v m) m.q list
+
+child_more : (v : ℤ) (list : List ℤ) (m : Record) (ms : List Record) → child_among v list (m ∷ ms) ≡ ((pair_of v m && elem_z m.q list) || child_among v list ms)
+child_more v list m ms = any_or (λ w. is_pair v w (entry_of m)) (λ w. any (is_pair v w) (map entry_of ms)) list ∙ ap (λ (b : Bool). b || child_among v list ms) (child_of v m list)
+
+-- Record i, and those behind it.
+pub child_at_lem : (v : ℤ) (list : List ℤ) (file : List ℕ) (i : ℕ) → i < length file / 32
+    → child_among v list (drop i (records_of file)) ≡ ((pair_of v (record_at file i) && elem_z (record_at file i).q list) || child_among v list (drop (suc i) (records_of file)))
+child_at_lem v list file i h = ap (child_among v list) (records_from file i h) ∙ child_more v list (record_at file i) (drop (suc i) (records_of file))

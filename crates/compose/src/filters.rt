@@ -94,7 +94,7 @@ fn compact_items(list: &mut [i64], run: &[u8]) -> usize
     compact(list, |v| items.finds_p(v))
 }
 
-// Narrows the list of field f by constraint k: keeps the values that meet it, or all where none does; how many are kept.
+// Narrows the list of field f by constraint k: keeps the values that meet it, or all where none does; how many are kept. That there is a constraint k is the bound of the call's own index, as in evaluate.
 fn narrow_by(rules: Rules, k: usize, f: usize, list: &mut [i64]) -> usize
     requires { suc k < length rules.heads.now }
     ensures count { result ≡ length (foldl (narrow_by f) list.old (constraint_of (group_in rules.entry.file.now (get_or rules.entry.heads.now k 0) (get_or rules.entry.heads.now (k + 1) 0)))) }

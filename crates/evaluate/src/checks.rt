@@ -73,7 +73,7 @@ impl<'a> Checks<'a> {
         self.first_failing(row).is_none()
     }
 
-    // The place of a row whose field checks pass: it is asked about these constraints.
+    // The place of a row whose field checks pass: it is asked about these constraints. 0 is document 01's place of a row that passed.
     pub fn place(&self, row: &[i64]) -> usize
         requires { (length row.now ≡ self.now.fields) × (length row.now ≤ 32) }
         ensures { result ≡ behind (length row.now) (first_chosen (holds_at self.now.file.now self.now.heads.now row.now) self.now.chosen.now) }
