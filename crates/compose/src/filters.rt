@@ -79,6 +79,8 @@ fn is_worth_index(items: usize, list: &[i64]) -> bool
 }
 
 // Moves the values that are among the items to the front; how many they are.
+// Out of line, as all functions are that have large arrays: inlined, each call of the caller would touch their memory.
+#[inline(never)]
 fn compact_items(list: &mut [i64], run: &[u8]) -> usize
     ensures count { result ≡ length (filter (λ v. elem_z v (ps_of (records_of run.now))) list.old) }
     ensures left { list.new ≡ over (filter (λ v. elem_z v (ps_of (records_of run.now))) list.old) list.old }

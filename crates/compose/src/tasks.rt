@@ -101,6 +101,8 @@ fn run_on<T: MapTask>(
 }
 
 // The same; the slots of the child's list are laid first.
+// Out of line, for its large array.
+#[inline(never)]
 fn run_slotted<T: MapTask>(
     task: &T,
     members: &[u8],

@@ -7,7 +7,7 @@ ghost use Rattle.lists.specs.Lists.{concat_map};
 ghost use Rattle.lists.specs.Integers.{eq_z};
 ghost use Rattle.classifier.specs.Code.{as_counts};
 ghost use Rattle.listing.specs.Counts.{IsPrefixLen};
-ghost use Rattle.listing.specs.Text.{signed_decimal, spaced, projection_text, refused_line, end_line, accepted_line, answer_line};
+ghost use Rattle.listing.specs.Text.{signed_decimal, spaced, projection_text, refusal, refused_line, end_line, accepted_line, answer_line};
 ghost use Rattle.listing.specs.Words.{after_if, bytes_for, can_list, has_room, line_of, lines_of, put_if};
 
 use classifier::count::Counts;
@@ -47,16 +47,16 @@ fn put_spaced<I: Integer>(out: &mut [u8], at: usize, number: I) -> usize
     put_word(out, next, digits.format(number).as_bytes())
 }
 
-// The line of a refusal: at most 50 bytes.
-fn put_refused(out: &mut [u8], at: usize, r: Refusal) -> usize
+// The line of a refusal by its numbers: at most 50 bytes.
+fn put_refused(out: &mut [u8], at: usize, number: u8, record_number: usize) -> usize
     requires { at + 50 ≤ length out.old }
-    ensures out_after { out.new ≡ sets out.old at (refused_line (as_refused r)) }
-    ensures value { result ≡ at + length (refused_line (as_refused r)) }
+    ensures out_after { out.new ≡ sets out.old at (refused_line (refusal number record_number)) }
+    ensures value { result ≡ at + length (refused_line (refusal number record_number)) }
     ensures upper_bound { result ≤ at + 50 }
 {
     let numbers = put_word(out, at, b"refused");
-    let records = put_spaced(out, numbers, u64::from(u8::from(r.fault)));
-    let end = put_spaced(out, records, r.record as u64);
+    let records = put_spaced(out, numbers, u64::from(number));
+    let end = put_spaced(out, records, record_number as u64);
     put_byte(out, end, b'\n')
 }
 
@@ -171,15 +171,23 @@ pub fn put_end(out: &mut [u8], at: usize, c: Counts) -> usize
     put_byte(out, end, b'\n')
 }
 
+// The line of a refusal by its numbers, whichever they are: other languages have these and no `Fault`. It takes at most 50 bytes; without room for them nothing is put.
+pub fn put_numbered(out: &mut [u8], at: usize, number: u8, record_number: usize) -> usize
+    ensures out_after { out.new ≡ put_if (has_room out.old at 50) (refused_line (refusal number record_number)) at out.old }
+    ensures value { result ≡ after_if (has_room out.old at 50) (refused_line (refusal number record_number)) at }
+{
+    if !has_room(&out[..], at, 50) {
+        return at;
+    }
+    put_refused(out, at, number, record_number)
+}
+
 // The line of a refusal: it takes at most 50 bytes; without room for them nothing is put.
 pub fn put_refusal(out: &mut [u8], at: usize, r: Refusal) -> usize
     ensures out_after { out.new ≡ put_if (has_room out.old at 50) (refused_line (as_refused r)) at out.old }
     ensures value { result ≡ after_if (has_room out.old at 50) (refused_line (as_refused r)) at }
 {
-    if !has_room(&out[..], at, 50) {
-        return at;
-    }
-    put_refused(out, at, r)
+    put_numbered(out, at, r.fault.into(), r.record)
 }
 
 // The line for what `validate` answered, at the start of `text`; how many bytes.
@@ -190,6 +198,6 @@ pub fn put_answer(text: &mut [u8; 64], judged: Result<Shape, Refusal>) -> usize
 {
     match judged {
         Ok(shape) => put_accepted(text, 0, shape.total as u64),
-        Err(refusal) => put_refused(text, 0, refusal),
+        Err(refusal) => put_refused(text, 0, refusal.fault.into(), refusal.record),
     }
 }

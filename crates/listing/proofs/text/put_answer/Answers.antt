@@ -27,6 +27,7 @@ returns-in-Err c =
     let args = c.args in
     let room : length args.text.now ≡ 64 = search rules in
     let line = answer_line (as_answer (Err c.in-Err.refusal)) in
-    let stands = put_first args.text.now put.new.out line put.result put.ensures.out_after put.ensures.value (omega (arith, put.ensures.upper_bound)) in
+    let told = rw c.into.ensures at put.ensures in
+    let stands = put_first args.text.now put.new.out line put.result told.out_after told.value (omega (arith, put.ensures.upper_bound)) in
     let same = ap (λ (v : Result Shape Refusal). answer_line (as_answer v)) (sym c.in-Err.is) in
-    record { prefix_len = stands.0; text_after = stands.1 ∙ same; text_after_2 = put.ensures.out_after ∙ ap (sets args.text.now 0) same }
+    record { prefix_len = stands.0; text_after = stands.1 ∙ same; text_after_2 = told.out_after ∙ ap (sets args.text.now 0) same }

@@ -1,6 +1,6 @@
 -- By the room.
 use mathlib.Core.Path.{◌∙◌, sym}
-use Rattle.listing.proofs.text.put_refusal.Goals as goal
+use Rattle.listing.proofs.text.put_numbered.Goals as goal
 
 pub returns : goal.returns
 returns c =
