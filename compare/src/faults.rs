@@ -496,7 +496,7 @@ fn unordered(order: i64, many: i64) -> Vec<Six> {
     child
 }
 
-/// Lengths at which the code takes another way: tables of 16,384 and of 262,144 cells, maps of 8, 16 and 32 members, maps from 32 values and onto 32, oneofs of 32 items, lists of 64 and of 512 values, 20 rows; members in no order, far apart or near; values of a list that have one remainder.
+/// Lengths at which the code takes another way: tables of 16,384 and of 262,144 cells, maps of 8, 16 and 32 members, maps from 32 values and onto 32, oneofs of 64 items, lists of 64 and of 512 values, 20 rows; members in no order, far apart or near; values of a list that have one remainder.
 fn lengths() -> Vec<Vec<u8>> {
     let mut all = Vec::new();
     for (keys, children) in [
@@ -529,11 +529,11 @@ fn lengths() -> Vec<Vec<u8>> {
         all.push(ranges(&[6, 4, 3], &after));
     }
     for (items, values, first) in [
-        (32, 65, 0),
-        (33, 64, 0),
-        (33, 65, 0),
-        (40, 200, -20),
-        (40, 200, 300),
+        (64, 65, 0),
+        (65, 64, 0),
+        (65, 65, 0),
+        (70, 200, -20),
+        (70, 200, 300),
         (3, 512, 500),
         (3, 513, 500),
         (3, 513, 600),
@@ -543,6 +543,16 @@ fn lengths() -> Vec<Vec<u8>> {
         after.extend((0..items).map(|i| (ITEM, 0, 0, first + i * 7 % 97 * 3, 0, 0)));
         after.extend([(LE, 0, 0, values - 3, 0, 0), SUMMED]);
         all.push(ranges(&[values], &after));
+    }
+    // The same over lists that do not ascend, or that repeat.
+    for order in [-1, 0, 1] {
+        for items in [64, 65, 70] {
+            let mut after = unordered(order, 200);
+            after.push((ONEOF, 1, 0, 0, 0, 0));
+            after.extend((0..items).map(|i| (ITEM, 0, 0, i * 7 % 97 * 3, 0, 0)));
+            after.push(SUMMED);
+            all.push(ranges(&[2], &after));
+        }
     }
     all.extend(few_rows());
     all.extend(mixed());

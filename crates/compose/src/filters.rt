@@ -1,5 +1,5 @@
 // The lists of the fields, laid into the lent scratch: each domain, narrowed in place.
-ghost use Rattle.std.specs.Prelude.{◌≡◌, Bool, ℤ, true, ◌+◌, ◌≤◌, ◌<◌, suc, pos, get_or, length, take, replicate};
+ghost use Rattle.std.specs.Prelude.{◌≡◌, Bool, ℤ, true, ◌+◌, ◌/◌, ◌≤◌, ◌<◌, suc, pos, get_or, length, take, replicate};
 ghost use mathlib.Core.List.{foldl, map};
 ghost use Rattle.lists.specs.Integers.{elem_z};
 ghost use Rattle.lists.specs.Lists.{concat_map, filter, sum_n, over};
@@ -75,25 +75,34 @@ fn compact_ascending(list: &mut [i64], items: IndexedRun) -> usize
 fn is_worth_index(items: usize, list: &[i64]) -> bool
     ensures { result ≡ true → items ≤ 2048 }
 {
-    items <= INDEXED && ((32 < items) & (64 < list.len()) || 512 < list.len() && is_ascending(list))
+    items <= INDEXED && ((64 < items) & (64 < list.len()) || 512 < list.len() && is_ascending(list))
 }
 
-// Moves the values that are among the items to the front; how many they are.
-// Out of line, as all functions are that have large arrays: inlined, each call of the caller would touch their memory.
+// Moves the values that are among the items to the front, by an index of these; how many they are.
+// Out of line, for its large array: inlined, each call of the caller would touch its memory.
 #[inline(never)]
-fn compact_items(list: &mut [i64], run: &[u8]) -> usize
+fn compact_indexed(list: &mut [i64], run: &[u8]) -> usize
+    requires { length run.now / 32 ≤ 2048 }
     ensures count { result ≡ length (filter (λ v. elem_z v (ps_of (records_of run.now))) list.old) }
     ensures left { list.new ≡ over (filter (λ v. elem_z v (ps_of (records_of run.now))) list.old) list.old }
 {
-    if !is_worth_index(run.len() / 32, &list[..]) {
-        return compact(list, |v| has_p(run, v));
-    }
     let mut room = [0usize; ROOM];
     let items = indexed(run, &mut room);
     if is_ascending(&list[..]) {
         return compact_ascending(list, items);
     }
     compact(list, |v| items.finds_p(v))
+}
+
+// Moves the values that are among the items to the front; how many they are.
+fn compact_items(list: &mut [i64], run: &[u8]) -> usize
+    ensures count { result ≡ length (filter (λ v. elem_z v (ps_of (records_of run.now))) list.old) }
+    ensures left { list.new ≡ over (filter (λ v. elem_z v (ps_of (records_of run.now))) list.old) list.old }
+{
+    if is_worth_index(run.len() / 32, &list[..]) {
+        return compact_indexed(list, run);
+    }
+    compact(list, |v| has_p(run, v))
 }
 
 // Narrows the list of field f by constraint k: keeps the values that meet it, or all where none does; how many are kept. That there is a constraint k is the bound of the call's own index, as in evaluate.

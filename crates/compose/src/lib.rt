@@ -6,7 +6,6 @@ pub mod filters;
 mod finding;
 pub mod force;
 pub mod groups;
-pub mod heads;
 pub mod maps;
 mod members;
 pub mod numbers;

@@ -117,6 +117,27 @@ impl<'a> Members for IndexedRun<'a> {
     }
 }
 
+// The members of a kept map: a run that is read through, or one with its index.
+#[derive(Clone, Copy)]
+pub(crate) enum MapRun<'a> {
+    Plain(&'a [u8]),
+    Indexed(IndexedRun<'a>),
+}
+
+impl<'a> MapRun<'a> {
+    ghost use Rattle.compose.specs.Known.{run_of};
+
+    // How many members they are.
+    pub(crate) fn many(self) -> usize
+        ensures { result ≡ length (run_of self.entry) / 32 }
+    {
+        match self {
+            MapRun::Plain(run) => run.len() / 32,
+            MapRun::Indexed(members) => members.run.len() / 32,
+        }
+    }
+}
+
 // The places of the records whose p is v.
 fn span_of(members: IndexedRun, v: Value) -> Range<usize>
     ensures { Spans members.entry.run.now members.entry.places.now v.0 result.start result.end }

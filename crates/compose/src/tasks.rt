@@ -1,9 +1,9 @@
 // What is done with a kept map and the lists of its fields, for the childless keys and for the table alike: what helps to find members and values is laid first, where that is worth it.
-ghost use Rattle.std.specs.Prelude.{◌≡◌, ◌≤◌, true, ◌&&◌, ◌||◌, leb, ltb, map, length};
+ghost use Rattle.std.specs.Prelude.{◌≡◌, ◌/◌, ◌≤◌, true, ◌&&◌, ◌||◌, leb, ltb, map, length};
 ghost use Rattle.spec.specs.Record.{entry_of, records_of};
-ghost use Rattle.compose.specs.Known.{ascends, values_of};
+ghost use Rattle.compose.specs.Known.{ascends, run_of, values_of};
 
-use crate::members::{INDEXED, Members, ROOM, Run, indexed, keys_in};
+use crate::members::{INDEXED, MapRun, Members, ROOM, Run, indexed, keys_in};
 use crate::slots::{REMAINDERS, Slots, lay_slots};
 use crate::values::Values;
 use registry::sorting::IndexedRun;
@@ -82,22 +82,43 @@ fn run_indexed<T: MapTask>(
     task.by_parents(members, parents, children, cells)
 }
 
-// The same; the members are indexed first where that is worth it.
+// The same; the members of a run are indexed first.
+// Out of line, for its large array.
+#[inline(never)]
+fn run_ordered<T: MapTask>(
+    task: &T,
+    run: &[u8],
+    parents: &[i64],
+    children: Values,
+    cells: &mut [u8],
+) -> T::Answer
+    requires { (length run.now / 32 ≤ 2048) × T.asks task.now parents.now (values_of children) cells.old }
+    ensures { T.gives task.now (map entry_of (records_of run.now)) parents.now (values_of children.entry) result cells.new }
+{
+    let mut room = [0usize; ROOM];
+    run_indexed(task, indexed(run, &mut room), parents, children, cells)
+}
+
+// The same; members without an index are given one where that is worth it.
 fn run_on<T: MapTask>(
     task: &T,
-    members: &[u8],
+    members: MapRun,
     parents: &[i64],
     children: Values,
     cells: &mut [u8],
 ) -> T::Answer
     requires { T.asks task.now parents.now (values_of children) cells.old }
-    ensures { T.gives task.now (map entry_of (records_of members.now)) parents.now (values_of children.entry) result cells.new }
+    ensures { T.gives task.now (map entry_of (records_of (run_of members.entry))) parents.now (values_of children.entry) result cells.new }
 {
-    if !is_worth(members.len() / 32, parents.len()) {
-        return task.by_parents(Run(members), parents, children, cells);
+    match members {
+        MapRun::Indexed(members) => run_indexed(task, members, parents, children, cells),
+        MapRun::Plain(run) => {
+            if is_worth(run.len() / 32, parents.len()) {
+                return run_ordered(task, run, parents, children, cells);
+            }
+            task.by_parents(Run(run), parents, children, cells)
+        }
     }
-    let mut room = [0usize; ROOM];
-    run_indexed(task, indexed(members, &mut room), parents, children, cells)
 }
 
 // The same; the slots of the child's list are laid first.
@@ -105,13 +126,13 @@ fn run_on<T: MapTask>(
 #[inline(never)]
 fn run_slotted<T: MapTask>(
     task: &T,
-    members: &[u8],
+    members: MapRun,
     parents: &[i64],
     list: &[i64],
     cells: &mut [u8],
 ) -> T::Answer
     requires { T.asks task.now parents.now list.now cells.old }
-    ensures { T.gives task.now (map entry_of (records_of members.now)) parents.now list.now result cells.new }
+    ensures { T.gives task.now (map entry_of (records_of (run_of members.entry))) parents.now list.now result cells.new }
 {
     let mut numbers = [0u16; REMAINDERS];
     lay_slots(list, &mut numbers);
@@ -123,16 +144,16 @@ fn run_slotted<T: MapTask>(
 // Does the task; the slots of the child's list are laid where it does not ascend and that is worth it.
 pub(crate) fn run<T: MapTask>(
     task: &T,
-    members: &[u8],
+    members: MapRun,
     parents: &[i64],
     list: &[i64],
     cells: &mut [u8],
 ) -> T::Answer
     requires { T.asks task.now parents.now list.now cells.old }
-    ensures { T.gives task.now (map entry_of (records_of members.now)) parents.now list.now result cells.new }
+    ensures { T.gives task.now (map entry_of (records_of (run_of members.entry))) parents.now list.now result cells.new }
 {
     let children = Values::new(list);
-    if !children.ascends() && is_worth_slots(members.len() / 32, list.len()) {
+    if !children.ascends() && is_worth_slots(members.many(), list.len()) {
         return run_slotted(task, members, parents, list, cells);
     }
     run_on(task, members, parents, children, cells)

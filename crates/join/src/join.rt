@@ -100,7 +100,7 @@ fn put_records(file: &[u8], from: usize, to: usize, by: u8, out: &mut [u8])
     }
 }
 
-// Writes the record of a sum.
+// Writes the record of a sum: 30 is its kind's number in a file, and all else is 0.
 #[tactic(auto, unfolding(crate::specs::Join::sum_bytes))]
 fn put_sum(out: &mut [u8])
     requires { length out.old ≡ 32 }

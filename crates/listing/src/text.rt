@@ -47,7 +47,7 @@ fn put_spaced<I: Integer>(out: &mut [u8], at: usize, number: I) -> usize
     put_word(out, next, digits.format(number).as_bytes())
 }
 
-// The line of a refusal by its numbers: at most 50 bytes.
+// The line of a refusal by its numbers, as files and listings have them: at most 50 bytes.
 fn put_refused(out: &mut [u8], at: usize, number: u8, record_number: usize) -> usize
     requires { at + 50 ≤ length out.old }
     ensures out_after { out.new ≡ sets out.old at (refused_line (refusal number record_number)) }
@@ -171,10 +171,11 @@ pub fn put_end(out: &mut [u8], at: usize, c: Counts) -> usize
     put_byte(out, end, b'\n')
 }
 
-// The line of a refusal by its numbers, whichever they are: other languages have these and no `Fault`. It takes at most 50 bytes; without room for them nothing is put.
+// The line of a refusal by its numbers, of which any will do: a `Refusal` has those of a `Fault` alone. It takes at most 50 bytes; without room for them nothing is put.
 pub fn put_numbered(out: &mut [u8], at: usize, number: u8, record_number: usize) -> usize
     ensures out_after { out.new ≡ put_if (has_room out.old at 50) (refused_line (refusal number record_number)) at out.old }
     ensures value { result ≡ after_if (has_room out.old at 50) (refused_line (refusal number record_number)) at }
+    ensures upper_bound { result ≤ at + 50 }
 {
     if !has_room(&out[..], at, 50) {
         return at;

@@ -31,7 +31,7 @@ module _ (rs : List Record) where
   past_flat : past ≡ flat (groups rs)
   past_flat = ap (drop (length (member_run rs))) (records_flat rs) ∙ drop_at (member_run rs) (flat (groups rs)) (length (member_run rs)) refl
 
-  past_led : member_run past ≡ []
+  pub past_led : member_run past ≡ []
   past_led = ap member_run past_flat ∙ (groups_flat (groups_proper rs)).0
 
   pub past_groups : groups past ≡ groups rs

@@ -23,3 +23,4 @@ pub mod Shapes
 pub mod Answers
 pub mod Places
 pub mod Numbered
+pub mod Noting

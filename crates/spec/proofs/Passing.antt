@@ -90,6 +90,9 @@ module _ (file : List ℕ) (st : State) (lead : ℕ) (plain : PlainList (record_
   abbrev Plainly : ℕ → Type 0
   Plainly i = (is_plain lead (record_at file i) ≡ true) × InBytes (record_at file i)
 
+  pub plain_member : (i : ℕ) → Plainly i → is_member (record_at file i).kind ≡ true
+  plain_member i t = (plain (record_at file i) (kind_of_lem file i) t.1 t.0).0
+
   at_plain : (i : ℕ) → st.head < i → i < length file / 32 → Plainly i → left_at file st i ≡ left_at file st (i + 1)
   at_plain i l inside t =
       let h = record_at file st.head in

@@ -1,5 +1,5 @@
 -- What the code's types stand for, and what it computes on the way where no definition of the requirement says it.
-use Rattle.std.specs.Prelude.{Bool, cond, true, false, ◌&&◌, ◌||◌, List, map, ◌≡◌, ℕ, zero, suc, ◌+◌, ◌-◌, ◌*◌, ◌/◌, ◌^◌, ◌≤◌, ◌<◌, eqb, leb, ltb, ℤ, pos, nat_abs, length, take, drop, Result, Ok, Err, IsErrAnd, MatchResult}
+use Rattle.std.specs.Prelude.{Bool, cond, true, false, ◌&&◌, ◌||◌, List, ◌++◌, map, ◌≡◌, ℕ, zero, suc, ◌+◌, ◌-◌, ◌*◌, ◌/◌, ◌^◌, ◌≤◌, ◌<◌, eqb, leb, ltb, ℤ, pos, nat_abs, length, take, drop, Result, Ok, Err, IsErrAnd, MatchResult}
 use Rattle.std.proofs.Math.Option.{Option, none, some}
 use Rattle.lists.specs.Integers.{eq_z}
 use Rattle.lists.specs.Lists.{any}
@@ -9,7 +9,7 @@ use Rattle.spec.specs.Kind as kinds
 use Rattle.spec.specs.Kind.{section_of, Kind, field, unknown, constraint, projector, member, Use, unused, number, natural, own, names, MemberKind, value, item, pair, key, disable, assign, axis, ConstraintKind, range, even, eq, neq, lt, gt, le, ge, oneof, cross, enable_mask, bitmask, enable_set, ProjectorKind, sum, identity, parity, decompose}
 use Rattle.spec.specs.Shape.{Shape}
 use Rattle.spec.specs.Spec.{FieldSpec}
-use Rattle.spec.specs.Record.{Record, record_at, records_of, member_run, groups}
+use Rattle.spec.specs.Record.{Record, record_at, records_of, member_run, groups, heads_from, heads_of}
 use Rattle.spec.specs.declared.context.Context as code'''
 use Rattle.spec.specs.declared.domains.Rise as code''
 use Rattle.spec.specs.declared.kinds.Kind as kind
@@ -235,6 +235,18 @@ after_turn file i (Err r) = some (as_refused r)
 abbrev pub turn_good : ℕ → Result scan.State code⁵.Refusal → Type 0
 turn_good i (Ok st) = st.head ≤ i
 turn_good i (Err r) = Unit {0}
+
+-- How many heads stand before a record: fields, constraints and a projector.
+abbrev pub heads_before : Context → ℕ
+heads_before c = c.fields + c.constraints + cond (eqb c.section 2) 1 0
+
+-- The places of the heads before record i stand in front of an array, count of them.
+abbrev pub Noted : List ℕ → List ℕ → ℕ → ℕ → Type 0
+Noted file heads count i = take count heads ++ heads_from i (drop i (records_of file)) ≡ heads_of file
+
+-- The places of all heads stand in front of it, and behind them the end of the file.
+abbrev pub AllNoted : List ℕ → List ℕ → Type 0
+AllNoted file heads = take (length (heads_of file)) heads ≡ heads_of file
 
 -- The section of record i, counting from 0, and no section at the end of the file.
 abbrev pub section_at : List ℕ → ℕ → ℕ

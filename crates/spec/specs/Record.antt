@@ -72,6 +72,20 @@ abbrev pub groups : List Record → List Group
 groups [] = []
 groups (h ∷ hs) = unless_member (is_member h.kind) h (member_run hs) (groups hs)
 
+-- A head's place, before the others; none of a member.
+abbrev pub unless_inside : Bool → ℕ → List ℕ → List ℕ
+unless_inside true i places = places
+unless_inside false i places = i ∷ places
+
+-- Where the heads of records stand, the first of which is number i, and behind them the end.
+abbrev pub heads_from : ℕ → List Record → List ℕ
+heads_from i [] = i ∷ []
+heads_from i (m ∷ ms) = unless_inside (is_member m.kind) i (heads_from (suc i) ms)
+
+-- Where the heads of a file stand, and behind them its end.
+unfoldable pub heads_of : List ℕ → List ℕ
+heads_of file = heads_from 0 (records_of file)
+
 -- ---- decoding
 abbrev pub field_by : ℕ → Record → List Record → FieldSpec
 field_by zero h ms = Free (nat_abs h.r)

@@ -17,7 +17,7 @@ pub struct Context {
 }
 
 impl Context {
-    ghost use Rattle.std.specs.Prelude.{◌≡◌, true, false};
+    ghost use Rattle.std.specs.Prelude.{◌≡◌, true, false, ◌+◌};
     ghost use Rattle.spec.specs.Kind.{is_member};
     ghost use Rattle.spec.specs.Refusal.{after_head, context, overfull};
     ghost use Rattle.spec.specs.Code.{as_context, as_kind};
@@ -43,6 +43,13 @@ impl Context {
             Section::Constraints => MOST_CONSTRAINTS <= self.constraints,
             Section::Projector | Section::Neither => false,
         }
+    }
+
+    // How many fields and constraints are before the record: where a head is noted.
+    pub(crate) fn heads(self) -> usize
+        ensures { (result ≡ self.fields + self.constraints) × (result ≤ 288) }
+    {
+        self.fields + self.constraints
     }
 
     // After the head.

@@ -1,14 +1,14 @@
 // Domains and the field check.
-ghost use Rattle.std.specs.Prelude.{◌≡◌, true, false, suc, ◌+◌, ◌-◌, ◌*◌, ◌/◌, ◌≤◌, ◌<◌, pos, nat_abs, ◌+ℤ◌, length, get_or, take, drop};
+ghost use Rattle.std.specs.Prelude.{◌≡◌, true, false, ◌+◌, ◌-◌, ◌*◌, ◌/◌, ◌≤◌, ◌<◌, pos, nat_abs, ◌+ℤ◌, length, get_or, take, drop};
 ghost use Rattle.std.specs.Int.Signed.{le_z};
 ghost use Rattle.lists.specs.Integers.{elem_z};
 ghost use Rattle.spec.specs.Domain.{first_multiple, step_of, on_step, domain, allows};
-ghost use Rattle.spec.specs.Record.{field_by, member_run, records_of};
+ghost use Rattle.spec.specs.Record.{field_by, records_of};
 ghost use Rattle.spec.specs.Refusal.{on_scale, negative};
 ghost use Rattle.spec.specs.Code.{as_record, ps_of, domain_length, low_of, high_of, InScale, InRise, IsRise};
 
 use crate::numbers::{Index, Value};
-use crate::records::{Record, kind_at, p_at};
+use crate::records::{Record, p_at};
 
 // first, first + step, ..: len of them.
 #[derive(Clone, Copy)]
@@ -116,20 +116,6 @@ pub fn allows_value(h: Record, values: &[u8], v: Value) -> bool
     }
 }
 
-// The first record after head that is no member.
-pub(crate) fn members_end(file: &[u8], head: usize) -> usize
-    requires { head < length file.now / 32 }
-    ensures { result ≡ head + 1 + length (member_run (drop (suc head) (records_of file.now))) }
-{
-    let n = file.len() / 32;
-    for i in head + 1..n {
-        if !kind_at(file, i).is_member() {
-            return i;
-        }
-    }
-    n
-}
-
 // The records from..to, as that part of the file.
 pub fn part(file: &[u8], from: usize, to: usize) -> &[u8]
     requires { (from ≤ to) × (to ≤ length file.now / 32) }
@@ -139,14 +125,6 @@ pub fn part(file: &[u8], from: usize, to: usize) -> &[u8]
     let a = from * 32;
     let e = to * 32;
     &file[a..e]
-}
-
-// The members after a head, as that part of the file.
-pub(crate) fn members(file: &[u8], head: usize) -> &[u8]
-    requires { head < length file.now / 32 }
-    ensures { records_of result.now ≡ member_run (drop (suc head) (records_of file.now)) }
-{
-    part(file, head + 1, members_end(file, head))
 }
 
 // The domain of field h, which lists no values.

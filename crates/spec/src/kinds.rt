@@ -238,7 +238,7 @@ pub fn row_of(kind: Kind, form: usize) -> Row
     }
 }
 
-// A field's row goes by its form, b.
+// A field's row goes by its form, b. No enum of forms, here and where domains go by b: b is a number of every record, and `field_by` of the definitions goes by it too.
 fn field_row(form: usize) -> Row
     ensures { as_row result ≡ field_row form }
 {

@@ -20,11 +20,9 @@ fn is_plain(file: &[u8], i: usize, lead: u64) -> bool
     ensures bytes { InBytes (record_at file.now i) }
 {
     let q = q_at(file, i);
-    (lead_at(file, i) == lead)
-        & ((lead == PAIR) | (q == 0))
-        & (r_at(file, i) == 0)
-        & on_scale(p_at(file, i))
-        & on_scale(q)
+    // But in a pair q is 0, which is on the scale.
+    let is_q_fine = if lead == PAIR { on_scale(q) } else { q == 0 };
+    (lead_at(file, i) == lead) & is_q_fine & (r_at(file, i) == 0) & on_scale(p_at(file, i))
 }
 
 // After the members from record i on of which that is so.

@@ -1,9 +1,9 @@
 // Refusals 2 to 9, in one pass over the records.
-ghost use Rattle.std.specs.Prelude.{◌≡◌, true, false, ◌+◌, ◌-◌, ◌/◌, ◌≤◌, ◌<◌, length, take, drop};
+ghost use Rattle.std.specs.Prelude.{◌≡◌, true, false, ℕ, ◌+◌, ◌-◌, ◌/◌, ◌≤◌, ◌<◌, length, take, drop, IfOk, OnOk};
 ghost use Rattle.spec.specs.Kind.{is_member};
 ghost use Rattle.spec.specs.Record.{records_of, record_at};
 ghost use Rattle.spec.specs.Refusal.{list_fault, records_fault, refuse};
-ghost use Rattle.spec.specs.Code.{after_turn, as_fault, as_kind, as_record, left_at, turn_good};
+ghost use Rattle.spec.specs.Code.{AllNoted, Noted, after_turn, as_context, as_fault, as_kind, as_record, heads_before, left_at, turn_good};
 
 use crate::context::Context;
 use crate::domains::part;
@@ -12,6 +12,7 @@ use crate::kinds::{List, Section, row_of};
 use crate::plain::{ITEM, PAIR, VALUE, plain_end};
 use crate::records::{Record, record_at};
 use crate::refusal::{Fault, Refusal, refuse_at};
+use crate::validate::HEADS;
 
 // The context after the last head, and that head's record, counted from 0. It stands before record i of the calls below, which is the bound of their own index.
 #[derive(Clone, Copy)]
@@ -32,13 +33,22 @@ fn close_list(file: &[u8], head: usize, end: usize) -> Result<(), Refusal>
     )
 }
 
-// Record i is a head: it closes the list before it, and opens its own.
-fn take_head(file: &[u8], i: usize, state: State, m: Record) -> Result<State, Refusal>
-    requires { (state.head < i) × (i < length file.now / 32) × (as_record m ≡ record_at file.now i) × (is_member (as_kind m.kind) ≡ false) }
-    ensures { (left_at file.now state i ≡ after_turn file.now i result) × turn_good i result }
+// Record i is a head: it closes the list before it, and opens its own. It is noted where it stands.
+fn take_head(
+    file: &[u8],
+    i: usize,
+    state: State,
+    m: Record,
+    heads: &mut [usize; HEADS],
+) -> Result<State, Refusal>
+    requires inside { (state.head < i) × (i < length file.now / 32) × (as_record m ≡ record_at file.now i) × (is_member (as_kind m.kind) ≡ false) }
+    requires noted { Noted file.now heads.old (heads_before (as_context state.context)) i }
+    ensures left { (left_at file.now state i ≡ after_turn file.now i result) × turn_good i result }
+    ensures noted { IfOk result (λ next. Noted file.now heads.new (heads_before (as_context next.context)) (i + 1)) }
 {
     close_list(file, state.head, i)?;
     refuse_at(judge_head(m, state.context), i + 1)?;
+    heads[state.context.heads()] = i;
     Ok(State {
         context: state.context.after(m.kind),
         head: i,
@@ -48,7 +58,8 @@ fn take_head(file: &[u8], i: usize, state: State, m: Record) -> Result<State, Re
 // Record i is a member: of the open list, or of none.
 fn take_member(file: &[u8], i: usize, state: State, m: Record) -> Result<State, Refusal>
     requires { (state.head < i) × (i < length file.now / 32) × (as_record m ≡ record_at file.now i) × (is_member (as_kind m.kind) ≡ true) }
-    ensures { (left_at file.now state i ≡ after_turn file.now i result) × turn_good i result }
+    ensures left { (left_at file.now state i ≡ after_turn file.now i result) × turn_good i result }
+    ensures same { IfOk result (λ next. next ≡ state) }
 {
     let head = record_at(file, state.head);
     if !belongs_to(head, m) {
@@ -60,26 +71,31 @@ fn take_member(file: &[u8], i: usize, state: State, m: Record) -> Result<State, 
     Ok(state)
 }
 
-fn take(file: &[u8], i: usize, state: State) -> Result<State, Refusal>
-    requires { (state.head < i) × (i < length file.now / 32) }
-    ensures { (left_at file.now state i ≡ after_turn file.now i result) × turn_good i result }
+fn take(file: &[u8], i: usize, state: State, heads: &mut [usize; HEADS]) -> Result<State, Refusal>
+    requires inside { (state.head < i) × (i < length file.now / 32) }
+    requires noted { Noted file.now heads.old (heads_before (as_context state.context)) i }
+    ensures left { (left_at file.now state i ≡ after_turn file.now i result) × turn_good i result }
+    ensures noted { IfOk result (λ next. Noted file.now heads.new (heads_before (as_context next.context)) (i + 1)) }
 {
     let m = record_at(file, i);
     if m.kind.is_member() {
         take_member(file, i, state, m)
     } else {
-        take_head(file, i, state, m)
+        take_head(file, i, state, m, heads)
     }
 }
 
-// After the last record.
-fn close(file: &[u8], state: State) -> Result<(), Refusal>
-    requires { state.head < length file.now / 32 }
-    ensures { as_fault result ≡ left_at file.now state (length file.now / 32) }
+// After the last record, whose end is noted behind the projector.
+fn close(file: &[u8], state: State, heads: &mut [usize; HEADS]) -> Result<(), Refusal>
+    requires inside { state.head < length file.now / 32 }
+    requires noted { Noted file.now heads.old (heads_before (as_context state.context)) (length file.now / 32) }
+    ensures left { as_fault result ≡ left_at file.now state (length file.now / 32) }
+    ensures noted { OnOk result (AllNoted file.now heads.new) }
 {
     let n = file.len() / 32;
     close_list(file, state.head, n)?;
     if state.context.section == Section::Projector {
+        heads[state.context.heads() + 1] = n;
         Ok(())
     } else {
         Err(Fault::OutOfOrder.at(n + 1))
@@ -89,7 +105,8 @@ fn close(file: &[u8], state: State) -> Result<(), Refusal>
 // Passes plain members from record i on: what is left to judge is the same.
 fn pass_plain(file: &[u8], state: State, i: usize) -> usize
     requires { (state.head < i) × (i ≤ length file.now / 32) }
-    ensures { (i ≤ result) × (result ≤ length file.now / 32) × (left_at file.now state i ≡ left_at file.now state result) }
+    ensures left { (i ≤ result) × (result ≤ length file.now / 32) × (left_at file.now state i ≡ left_at file.now state result) }
+    ensures members { (j : ℕ) → i ≤ j → j < result → is_member (record_at file.now j).kind ≡ true }
 {
     let head = record_at(file, state.head);
     match row_of(head.kind, head.b).list {
@@ -101,24 +118,27 @@ fn pass_plain(file: &[u8], state: State, i: usize) -> usize
 }
 
 // The records after the first, which is a head.
-fn scan_from(file: &[u8], first: State) -> Result<(), Refusal>
-    requires { (first.head < 1) × (1 ≤ length file.now / 32) }
-    ensures { as_fault result ≡ left_at file.now first 1 }
+fn scan_from(file: &[u8], first: State, heads: &mut [usize; HEADS]) -> Result<(), Refusal>
+    requires inside { (first.head < 1) × (1 ≤ length file.now / 32) }
+    requires noted { Noted file.now heads.old (heads_before (as_context first.context)) 1 }
+    ensures left { as_fault result ≡ left_at file.now first 1 }
+    ensures noted { OnOk result (AllNoted file.now heads.new) }
 {
     let n = file.len() / 32;
     let mut state = first;
     let mut i = pass_plain(file, state, 1);
     // No `for`: the index goes on past runs of plain members.
     while i < n {
-        state = take(file, i, state)?;
+        state = take(file, i, state, heads)?;
         i = pass_plain(file, state, i + 1);
     }
-    close(file, state)
+    close(file, state, heads)
 }
 
-// Refusals 2 to 9.
-pub(crate) fn scan(file: &[u8]) -> Result<(), Refusal>
-    ensures { as_fault result ≡ records_fault (records_of file.now) }
+// Refusals 2 to 9. Where the heads stand is noted here: a pass of its own over a long list costs half as much as the test of its members. Of a refused file nothing is said of the array.
+pub(crate) fn scan(file: &[u8], heads: &mut [usize; HEADS]) -> Result<(), Refusal>
+    ensures fault { as_fault result ≡ records_fault (records_of file.now) }
+    ensures noted { OnOk result (AllNoted file.now heads.new) }
 {
     let is_empty = file.len() < 32;
     if is_empty {
@@ -130,11 +150,13 @@ pub(crate) fn scan(file: &[u8]) -> Result<(), Refusal>
     }
     let context = Context::new();
     refuse_at(judge_head(m, context), 1)?;
+    heads[0] = 0;
     scan_from(
         file,
         State {
             context: context.after(m.kind),
             head: 0,
         },
+        heads,
     )
 }

@@ -12,7 +12,8 @@ returns-in-Some c =
     let m = c.in-Some.map in
     c.run.ensures
     ∙ rw (
-      c.members.ensures,
+      c.map_run.ensures,
+      c.places.ensures.file.0,
       c.list-in-Some.ensures,
       c.list.ensures,
       c.in-Some.is,
