@@ -263,6 +263,32 @@ fn filters(m: &mut Maker) {
     m.what += &format!("{many} filters; ");
 }
 
+/// A file of up to three fields, most often of many listed values, that filters narrow to few.
+fn few_left(m: &mut Maker) {
+    let fields = 1 + m.random.below(3);
+    for f in 0..fields {
+        let length = 100 + m.random.below(1_800 / fields);
+        m.field(length);
+        let many = 1 + m.random.below(2);
+        for _ in 0..many {
+            let (v, width) = (m.value(f), m.up_to(10) as i64);
+            let mask = (1 << m.random.below(40)) - 1;
+            match m.random.below(4) {
+                0 => m.put(BITMASK, f, 0, mask, v & mask),
+                1 => {
+                    m.put(ONEOF, f, 0, 0, 0);
+                    for _ in 0..width {
+                        let v = m.value(f);
+                        m.put(ITEM, 0, 0, v, 0);
+                    }
+                    m.what += &format!("oneof of {width}; ");
+                }
+                _ => m.put(RANGE, f, 0, v, v + width),
+            }
+        }
+    }
+}
+
 /// A file of few rows and many constraints.
 fn few(m: &mut Maker) {
     let fields = 1 + m.random.below(8);
@@ -331,13 +357,14 @@ fn two_maps(m: &mut Maker) {
 
 type Make = fn(&mut Maker);
 
-const KINDS: [(&str, Make); 9] = [
+const KINDS: [(&str, Make); 10] = [
     ("any", any),
     ("one map", one_map),
     ("under a field", under_field),
     ("two maps", two_maps),
     ("forced", forced),
     ("filters", filters),
+    ("few left", few_left),
     ("few rows", few),
     ("many fields", many),
     ("oneofs", oneofs),

@@ -49,27 +49,28 @@ module _ {A : Type 0} (l₀ l : List A) (w : ℕ) (rest : drop w l ≡ drop w l�
   pub over_end : (new : List A) → take w l ≡ new → w ≡ length new → l ≡ over new l₀
   over_end new t e = sym (take-append-drop w l) ∙ ap₂ (λ (a b : List A). a ++ b) t (rest ∙ ap (λ (n : ℕ). drop n l₀) e)
 
--- ---- of the first i values of l₀ those that pass were moved to the front of l: w of them
-pub record Moved (p : ℤ → Bool) (l₀ l : List ℤ) (w i : ℕ) : Type 0 where
+-- ---- of the first i values of src those that pass were written to the front of l, w of them; behind them stands what stood in l₀
+pub record Moved (p : ℤ → Bool) (src l₀ l : List ℤ) (w i : ℕ) : Type 0 where
   pub behind : w ≤ i
-  pub inside : i ≤ length l₀
-  pub long : length l ≡ length l₀
+  pub inside : i ≤ length src
+  pub long : length l ≡ length src
   pub rest : drop w l ≡ drop w l₀
-  pub kept : take w l ++ filter p (drop i l₀) ≡ filter p l₀
+  pub kept : take w l ++ filter p (drop i src) ≡ filter p src
 
-pub moved_none : (p : ℤ → Bool) (l : List ℤ) → Moved p l l 0 0
-moved_none p l = record { behind = omega arith; inside = omega arith; long = refl; rest = refl; kept = refl }
+pub moved_none : (p : ℤ → Bool) (src l : List ℤ) → length l ≡ length src → Moved p src l l 0 0
+moved_none p src l n = record { behind = omega arith; inside = omega arith; long = n; rest = refl; kept = refl }
 
-module _ (p : ℤ → Bool) (l₀ l : List ℤ) (w i : ℕ) (m : Moved p l₀ l w i) where
-  pub moved_read : get_or l i (pos 0) ≡ get_or l₀ i (pos 0)
-  moved_read = let b = m.behind in at (i - w) (omega arith)
-    where
-      at : (k : ℕ) → w + k ≡ i → get_or l i (pos 0) ≡ get_or l₀ i (pos 0)
-      at k e = rw (← e) (sym (get_or-drop w l k (pos 0)) ∙ ap (λ (z : List ℤ). get_or z k (pos 0)) m.rest ∙ get_or-drop w l₀ k (pos 0))
+-- where the values are read from the list itself
+pub moved_read : (p : ℤ → Bool) (l₀ l : List ℤ) (w i : ℕ) → Moved p l₀ l₀ l w i → get_or l i (pos 0) ≡ get_or l₀ i (pos 0)
+moved_read p l₀ l w i m = let b = m.behind in at (i - w) (omega arith)
+  where
+    at : (k : ℕ) → w + k ≡ i → get_or l i (pos 0) ≡ get_or l₀ i (pos 0)
+    at k e = rw (← e) (sym (get_or-drop w l k (pos 0)) ∙ ap (λ (z : List ℤ). get_or z k (pos 0)) m.rest ∙ get_or-drop w l₀ k (pos 0))
 
-  pub moved_kept : i < length l₀ → p (get_or l₀ i (pos 0)) ≡ true → Moved p l₀ (set l w (get_or l₀ i (pos 0))) (w + 1) (i + 1)
+module _ (p : ℤ → Bool) (src l₀ l : List ℤ) (w i : ℕ) (m : Moved p src l₀ l w i) where
+  pub moved_kept : i < length src → p (get_or src i (pos 0)) ≡ true → Moved p src l₀ (set l w (get_or src i (pos 0))) (w + 1) (i + 1)
   moved_kept h e =
-      let x = get_or l₀ i (pos 0) in
+      let x = get_or src i (pos 0) in
       let b = m.behind in
       let s = m.long in
       record {
@@ -77,22 +78,22 @@ module _ (p : ℤ → Bool) (l₀ l : List ℤ) (w i : ℕ) (m : Moved p l₀ l 
         inside = omega arith;
         long = length-set l w x ∙ m.long;
         rest = rest_turn l₀ l w m.rest x;
-        kept = ap (λ (z : List ℤ). z ++ filter p (drop (i + 1) l₀)) (ap (λ (n : ℕ). take n (set l w x)) (add-one w) ∙ take-suc-set l w x (omega arith)) ∙ append_snoc (take w l) x _ ∙ ap (λ (z : List ℤ). take w l ++ z) (sym (keep_here l₀ i p h e)) ∙ m.kept;
+        kept = ap (λ (z : List ℤ). z ++ filter p (drop (i + 1) src)) (ap (λ (n : ℕ). take n (set l w x)) (add-one w) ∙ take-suc-set l w x (omega arith)) ∙ append_snoc (take w l) x _ ∙ ap (λ (z : List ℤ). take w l ++ z) (sym (keep_here src i p h e)) ∙ m.kept;
       }
 
-  pub moved_past : i < length l₀ → p (get_or l₀ i (pos 0)) ≡ false → Moved p l₀ l w (i + 1)
+  pub moved_past : i < length src → p (get_or src i (pos 0)) ≡ false → Moved p src l₀ l w (i + 1)
   moved_past h e =
       let b = m.behind in
-      record { behind = omega arith; inside = omega arith; long = m.long; rest = m.rest; kept = ap (λ (z : List ℤ). take w l ++ z) (sym (keep_past l₀ i p h e)) ∙ m.kept }
+      record { behind = omega arith; inside = omega arith; long = m.long; rest = m.rest; kept = ap (λ (z : List ℤ). take w l ++ z) (sym (keep_past src i p h e)) ∙ m.kept }
 
-  moved_front : length l₀ ≤ i → take w l ≡ filter p l₀
-  moved_front h = sym (append-nil (take w l)) ∙ ap (λ (z : List ℤ). take w l ++ filter p z) (sym (drop_of_length-le l₀ {i = i} h)) ∙ m.kept
+  moved_front : length src ≤ i → take w l ≡ filter p src
+  moved_front h = sym (append-nil (take w l)) ∙ ap (λ (z : List ℤ). take w l ++ filter p z) (sym (drop_of_length-le src {i = i} h)) ∙ m.kept
 
-  pub moved_count : length l₀ ≤ i → w ≡ length (filter p l₀)
+  pub moved_count : length src ≤ i → w ≡ length (filter p src)
   moved_count h = let b = m.behind in let s = m.long in let n = m.inside in sym (length-take-le w l (omega arith)) ∙ ap length (moved_front h)
 
-  pub moved_end : length l₀ ≤ i → l ≡ over (filter p l₀) l₀
-  moved_end h = over_end l₀ l w m.rest (filter p l₀) (moved_front h) (moved_count h)
+  pub moved_end : length src ≤ i → l ≡ over (filter p src) l₀
+  moved_end h = over_end l₀ l w m.rest (filter p src) (moved_front h) (moved_count h)
 
 -- ---- a filter that would keep none is passed over
 -- A list that stays as it was.
@@ -118,6 +119,22 @@ module _ (new l left : List ℤ) (kept : ℕ) (count : kept ≡ length new) (fro
   left-some n =
       let e = sym (some-kept new l (λ z. n (count ∙ z))) in
       (count ∙ ap length e, front ∙ ap (λ (m : List ℤ). over m l) e)
+
+-- what a filter keeps of src, written over l₀, and src narrowed by it
+pub record Met (src l₀ left : List ℤ) (met : ℕ) (narrowed : List ℤ) : Type 0 where
+  pub p : ℤ → Bool
+  pub count : met ≡ length (filter p src)
+  pub front : left ≡ over (filter p src) l₀
+  pub is : narrowed ≡ or_else (filter p src) src
+
+module _ (src l₀ left : List ℤ) (met : ℕ) (narrowed : List ℤ) (m : Met src l₀ left met narrowed) where
+  pub met-none : met ≡ 0 → narrowed ≡ src
+  met-none z = m.is ∙ (none_kept (filter m.p src) src (sym m.count ∙ z)).0
+
+  pub met-some : ¬ (met ≡ 0) → (met ≡ length narrowed) × (take met left ≡ narrowed)
+  met-some n =
+      let e : filter m.p src ≡ narrowed = sym (some-kept (filter m.p src) src (λ z. n (m.count ∙ z))) ∙ sym m.is in
+      (m.count ∙ ap length e, ap (take met) m.front ∙ take_at (filter m.p src) _ met (sym m.count) ∙ e)
 
 -- ---- by kind
 narrow_if_lem : (narrowing same : Bool) (t : Test) (l : List ℤ) → narrow_if (same && narrowing) t l ≡ cond (narrowing && same) (kept_by (some t) l) l

@@ -1,11 +1,11 @@
 // The lists of the fields, laid into the lent scratch: each domain, narrowed in place.
-ghost use Rattle.std.specs.Prelude.{◌≡◌, Bool, ℤ, true, ◌+◌, ◌/◌, ◌≤◌, ◌<◌, suc, pos, get_or, length, take, replicate};
+ghost use Rattle.std.specs.Prelude.{◌≡◌, Bool, ℤ, List, true, false, ◌+◌, ◌/◌, ◌≤◌, ◌<◌, suc, pos, get_or, length, take, drop, replicate, MatchOption};
 ghost use mathlib.Core.List.{foldl, map};
 ghost use Rattle.lists.specs.Integers.{elem_z};
 ghost use Rattle.lists.specs.Lists.{concat_map, filter, sum_n, over};
 ghost use Rattle.spec.specs.Code.{as_record, InScale, ps_of};
 ghost use Rattle.spec.specs.Domain.{domain};
-ghost use Rattle.spec.specs.Record.{constraint_of, field_by, field_of, records_of};
+ghost use Rattle.spec.specs.Record.{constraint_of, field_by, field_of, record_at, records_of};
 ghost use Rattle.registry.specs.Code.{group_in};
 ghost use Rattle.compose.specs.Maps.{allowed, narrow_by};
 ghost use Rattle.compose.specs.Code.{Answers, constraints_in, fields_in, FieldIn, FieldsIn, is_ascending, list_places, lists_by, packed_lists, span_of};
@@ -29,6 +29,27 @@ pub(crate) fn lay_domain(h: Record, values: &[u8], list: &mut [i64])
     for (i, v) in list.iter_mut().enumerate() {
         *v = domain_value(h, values, Index(i)).0;
     }
+}
+
+// Lays those values of the domain of field h that pass the test over the list; how many they are.
+// Out of line: inlined, what the loop goes by lies on the stack.
+#[inline(never)]
+fn lay_passing<F: Fn(Value) -> bool>(h: Record, values: &[u8], list: &mut [i64], passes: F) -> usize
+    requires can { F.IsAlwaysCallable passes }
+    requires room { InScale h.p h.q h.r × (length list.old ≡ length (domain (field_by h.b (as_record h) (records_of values.now)))) }
+    ensures count { (p : ℤ → Bool) → Answers (F.post passes) p → result ≡ length (filter p (domain (field_by h.b (as_record h) (records_of values.now)))) }
+    ensures left { (p : ℤ → Bool) → Answers (F.post passes) p → list.new ≡ over (filter p (domain (field_by h.b (as_record h) (records_of values.now)))) list.old }
+{
+    let mut kept = 0;
+    // By index: a value is written where it is kept, not where it is read.
+    for i in 0..list.len() {
+        let v = domain_value(h, values, Index(i));
+        if passes(v) {
+            list[kept] = v.0;
+            kept += 1;
+        }
+    }
+    kept
 }
 
 // Moves the values that pass the test to the front; how many they are.
@@ -130,16 +151,71 @@ fn narrow_by(rules: Rules, k: usize, f: usize, list: &mut [i64]) -> usize
     if none { list.len() } else { met }
 }
 
-// Narrows it by each constraint, in file order.
-fn narrow_all(rules: Rules, f: usize, list: &mut [i64]) -> usize
-    ensures count { result ≡ length (foldl (narrow_by f) list.old (constraints_in rules.entry.file.now rules.entry.heads.now)) }
-    ensures front { take result list.new ≡ foldl (narrow_by f) list.old (constraints_in rules.entry.file.now rules.entry.heads.now) }
+// Constraint k is a filter of field f.
+fn is_filter(rules: Rules, k: usize, f: usize) -> bool
+    requires { suc k < length rules.heads.now }
+    ensures field { result ≡ true → (record_at rules.entry.file.now (get_or rules.entry.heads.now k 0)).a ≡ f }
+    ensures others { result ≡ false → (list : List ℤ) → foldl (narrow_by f) list (constraint_of (group_in rules.entry.file.now (get_or rules.entry.heads.now k 0) (get_or rules.entry.heads.now (k + 1) 0))) ≡ list }
+{
+    let h = record_at(rules.file, rules.heads[k]);
+    (h.a == f) & matches!(h.kind, Kind::Range | Kind::Oneof | Kind::Bitmask)
+}
+
+// The first filter of field f: the constraints before it narrow nothing, and all where there is none.
+fn first_filter(rules: Rules, f: usize) -> Option<usize>
+    ensures { MatchOption result ((list : List ℤ) → foldl (narrow_by f) list (constraints_in rules.entry.file.now rules.entry.heads.now) ≡ list) (λ k. (suc k < length rules.entry.heads.now) × ((record_at rules.entry.file.now (get_or rules.entry.heads.now k 0)).a ≡ f) × ((list : List ℤ) → foldl (narrow_by f) list (constraints_in rules.entry.file.now rules.entry.heads.now) ≡ foldl (narrow_by f) list (constraints_in rules.entry.file.now (drop k rules.entry.heads.now)))) }
+{
+    for k in 0..rules.count() {
+        if is_filter(rules, k, f) {
+            return Some(k);
+        }
+    }
+    None
+}
+
+// Narrows the list by the constraints from number `first` on, in file order.
+fn narrow_from(rules: Rules, first: usize, f: usize, list: &mut [i64]) -> usize
+    ensures count { result ≡ length (foldl (narrow_by f) list.old (constraints_in rules.entry.file.now (drop first rules.entry.heads.now))) }
+    ensures front { take result list.new ≡ foldl (narrow_by f) list.old (constraints_in rules.entry.file.now (drop first rules.entry.heads.now)) }
 {
     let mut len = list.len();
-    for k in 0..rules.count() {
+    for k in first..rules.count() {
         len = narrow_by(rules, k, f, &mut list[..len]);
     }
     len
+}
+
+// Lays the domain of field h, which is field f, narrowed by constraint k, one of its own; how many are left. Where that is a range or a bitmask, only the values that meet it are laid: to lay all first takes as long again.
+fn lay_narrowed(
+    rules: Rules,
+    k: usize,
+    f: usize,
+    h: Record,
+    values: &[u8],
+    list: &mut [i64],
+) -> usize
+    requires constraint { (suc k < length rules.heads.now) × ((record_at rules.file.now (get_or rules.heads.now k 0)).a ≡ f) }
+    requires room { InScale h.p h.q h.r × (length list.old ≡ length (domain (field_by h.b (as_record h) (records_of values.now)))) }
+    ensures count { result ≡ length (foldl (narrow_by f) (domain (field_by h.b (as_record h) (records_of values.now))) (constraint_of (group_in rules.entry.file.now (get_or rules.entry.heads.now k 0) (get_or rules.entry.heads.now (k + 1) 0)))) }
+    ensures front { take result list.new ≡ foldl (narrow_by f) (domain (field_by h.b (as_record h) (records_of values.now))) (constraint_of (group_in rules.entry.file.now (get_or rules.entry.heads.now k 0) (get_or rules.entry.heads.now (k + 1) 0))) }
+{
+    let c = record_at(rules.file, rules.heads[k]);
+    let kind = c.kind;
+    // Two arms that are alike, as in `narrow_by`.
+    let kept = match kind {
+        Kind::Range => lay_passing(h, values, list, |v| meets(Kind::Range, c.p, c.q, &[], v)),
+        Kind::Bitmask => lay_passing(h, values, list, |v| meets(Kind::Bitmask, c.p, c.q, &[], v)),
+        _ => {
+            lay_domain(h, values, list);
+            return narrow_by(rules, k, f, list);
+        }
+    };
+    let none = kept == 0;
+    if none {
+        lay_domain(h, values, list);
+        return list.len();
+    }
+    kept
 }
 
 // Lays the allowed list of the field at record head, which is field f; its length.
@@ -151,8 +227,12 @@ fn lay_list(rules: Rules, head: usize, end: usize, f: usize, list: &mut [i64]) -
     let h = record_at(rules.file, head);
     let values = part(rules.file, head + 1, end);
     let len = domain_len(h, values.len() / 32);
-    lay_domain(h, values, &mut list[..len]);
-    narrow_all(rules, f, &mut list[..len])
+    let Some(k) = first_filter(rules, f) else {
+        lay_domain(h, values, &mut list[..len]);
+        return len;
+    };
+    let kept = lay_narrowed(rules, k, f, h, values, &mut list[..len]);
+    narrow_from(rules, k + 1, f, &mut list[..kept])
 }
 
 // Lays the lists of the fields one behind the other, by the constraints given of their file, and zeros to the end. In lists, where that of each field lies.

@@ -4,7 +4,7 @@ use Prim.Native.Nat.{◌%◌, ◌*◌, ◌+◌, ◌-◌, ◌/◌, ◌<◌, ◌^�
 use native.Mathlib.Nat.{div-div-eq-div-mul, div-one, min_comm, mul_comm, mul-one, pow-suc, pow-zero, suc-add, zero-add}
 use native.Mathlib.Omega.{arith}
 use lib.Arith.{bin_ind}
-use lib.Bits.{and_comm, and_le_l, and_step, and_zero_r, bit_and, bit_or, or_disjoint, or_step, shifted_even, shifted_half}
+use lib.Bits.{and_comm, and_le_l, and_le_r, and_step, and_zero_r, bit_and, bit_or, bit_xor, or_add_and, or_disjoint, or_step, shifted_even, shifted_half, xor_add_and}
 use lib.IntN.{nat_abs, negsuc, pos, ℤ}
 use Rattle.lists.specs.Integers.{and_z, low_bit}
 
@@ -89,6 +89,13 @@ low_bit_mod (negsuc a) = ap (λ (x : ℕ). 1 - x) (and_step 1 a) ∙ omega arith
 pub low_bit_bit : (v : ℤ) → low_bit v ≡ bit_z v 0
 low_bit_bit (pos a) = and_step 1 a ∙ omega arith
 low_bit_bit (negsuc a) = ap (λ (x : ℕ). 1 - x) (and_step 1 a) ∙ omega arith
+
+-- ---- no bit at all
+pub or_none : (a b : ℕ) → bit_or a b ≡ 0 → (a ≡ 0) × (b ≡ 0)
+or_none a b e = (omega (arith, or_add_and a b, and_le_r a b), omega (arith, or_add_and a b, and_le_l a b))
+
+pub xor_none : (a b : ℕ) → bit_xor a b ≡ 0 → a ≡ b
+xor_none a b e = omega (arith, xor_add_and a b, and_le_l a b, and_le_r a b)
 
 -- ---- disjoint bits
 pub no_bits : (n : ℕ) → ((i : ℕ) → bit n i ≡ 0) → n ≡ 0

@@ -1,5 +1,6 @@
 // The check of a constraint on a row of values: one decision over all kinds.
-ghost use Rattle.std.specs.Prelude.{◌≡◌, ◌≢◌, true, map, suc, ◌+◌, ◌-◌, ◌/◌, ◌≤◌, ◌<◌, drop, eqb, get_or, length, take, MatchOption};
+ghost use Rattle.std.specs.Prelude.{◌≡◌, ◌≢◌, true, map, suc, ◌+◌, ◌-◌, ◌/◌, ◌≤◌, ◌<◌, ◌&&◌, drop, eqb, get_or, length, take, MatchOption};
+ghost use Rattle.std.specs.Int.Signed.{le_z};
 ghost use Rattle.lists.specs.Integers.{elem_z};
 ghost use Rattle.lists.specs.Lists.{all, any};
 ghost use Rattle.spec.specs.Code.{as_kind, ps_of};
@@ -17,6 +18,13 @@ use spec::records::{a_at, b_at, kind_at, p_at, q_at};
 // The mark of a head whose members are indexed is this and the number of the record that they end before. No place reaches it. A number and not an enum, so that the places lie one behind the other, as the index of a run has them.
 pub const MARK: usize = 4096;
 
+// The value is one of p..q: in one comparison, since a long list is gone through by it.
+fn is_between(p: i64, q: i64, x: i64) -> bool
+    ensures { result ≡ (le_z p x && le_z x q) }
+{
+    (p <= q) & (x.wrapping_sub(p).cast_unsigned() <= q.wrapping_sub(p).cast_unsigned())
+}
+
 // The test of one value that a constraint is, with its members; records that are no such test pass every value.
 pub fn meets(kind: Kind, p: i64, q: i64, run: &[u8], v: Value) -> bool
     requires { mask_in (as_kind kind) p ≡ true }
@@ -24,7 +32,7 @@ pub fn meets(kind: Kind, p: i64, q: i64, run: &[u8], v: Value) -> bool
 {
     let x = v.0;
     match kind {
-        Kind::Range => (p <= x) & (x <= q),
+        Kind::Range => is_between(p, q, x),
         Kind::Even => x % 2 == 0,
         Kind::Lt => x < p,
         Kind::Gt => p < x,

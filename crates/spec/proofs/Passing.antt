@@ -20,13 +20,17 @@ use Rattle.spec.specs.declared.scan.State.{State}
 use Rattle.spec.proofs.Fields.{kind_of_lem}
 use Rattle.spec.proofs.Turns.{at_member}
 
--- One more number of which something is said.
-pub said_more : (Said : ℕ → Type 0) (i k : ℕ) → ((j : ℕ) → i ≤ j → j < k → Said j) → Said k → (j : ℕ) → i ≤ j → j < k + 1 → Said j
-said_more Said i k t e j g l = go (ltb j k) refl
+-- What is said of the numbers up to k and of those from k on.
+pub said_on : (Said : ℕ → Type 0) (i k n : ℕ) → ((j : ℕ) → i ≤ j → j < k → Said j) → ((j : ℕ) → k ≤ j → j < n → Said j) → (j : ℕ) → i ≤ j → j < n → Said j
+said_on Said i k n t e j g l = go (ltb j k) refl
   where
     go : (b : Bool) → ltb j k ≡ b → Said j
     go true q = t j g (yes_lt j k q)
-    go false q = let s : k ≡ j = omega (arith, no_ge j k q) in subst Said s e
+    go false q = e j (no_ge j k q) l
+
+-- One more number.
+pub said_more : (Said : ℕ → Type 0) (i k : ℕ) → ((j : ℕ) → i ≤ j → j < k → Said j) → Said k → (j : ℕ) → i ≤ j → j < k + 1 → Said j
+said_more Said i k t e = said_on Said i k (k + 1) t (λ j g l. let s : k ≡ j = omega arith in subst Said s e)
 
 -- What the test of a plain member says.
 record Plain (kind a : ℕ) (m : Record) : Type 0 where

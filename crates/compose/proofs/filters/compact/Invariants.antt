@@ -5,4 +5,4 @@ use Rattle.compose.proofs.Narrowing.{Moved}
 use Rattle.compose.proofs.filters.compact.Given as goal
 
 abbrev pub invariant-loop-i : goal.invariant-loop-i
-invariant-loop-i g l = (l.kept ≤ l.i) × ((p : ℤ → Bool) → Answers (goal.F-post g l.passes) p → Moved p l.initial.list l.list l.kept l.i)
+invariant-loop-i g l = (l.kept ≤ l.i) × ((p : ℤ → Bool) → Answers (goal.F-post g l.passes) p → Moved p l.initial.list l.initial.list l.list l.kept l.i)

@@ -20,35 +20,35 @@ use Rattle.compose.proofs.filters.compact_ascending.Goals as goal
 module _ (p : ℤ → Bool) (l₀ l : List ℤ) (w : ℕ) where
   -- the first j values were moved, and the next one passes
   abbrev Next : ℕ → Type 0
-  Next j = Moved p l₀ l w j × (j < length l₀ → p (get_or l₀ j (pos 0)) ≡ true)
+  Next j = Moved p l₀ l₀ l w j × (j < length l₀ → p (get_or l₀ j (pos 0)) ≡ true)
 
-  same_from : (i : ℕ) → Moved p l₀ l w i → drop i l ≡ drop i l₀
+  same_from : (i : ℕ) → Moved p l₀ l₀ l w i → drop i l ≡ drop i l₀
   same_from i m = let b = m.behind in let e : w + (i - w) ≡ i = omega arith in rw e at (rest_more l₀ l w m.rest (i - w))
 
-  next-is : (i k a : ℕ) → i + a + k ≡ length l₀ → Moved p l₀ l w (i + a) → Next (i + least (λ b. p (get_or (drop i l) b (pos 0))) a k)
+  next-is : (i k a : ℕ) → i + a + k ≡ length l₀ → Moved p l₀ l₀ l w (i + a) → Next (i + least (λ b. p (get_or (drop i l) b (pos 0))) a k)
   next-is i zero a e m = (m, λ h. absurd (omega arith))
   next-is i (suc k) a e m = go (p (get_or (drop i l) a (pos 0))) refl (next-is i k (suc a) (omega arith))
     where
       here : p (get_or (drop i l) a (pos 0)) ≡ p (get_or l₀ (i + a) (pos 0))
       here = ap p (get_or-drop i l a (pos 0) ∙ moved_read p l₀ l w (i + a) m)
 
-      go : (b : Bool) → p (get_or (drop i l) a (pos 0)) ≡ b → (Moved p l₀ l w (i + suc a) → Next (i + least (λ b. p (get_or (drop i l) b (pos 0))) (suc a) k)) → Next (i + cond b a (least (λ b. p (get_or (drop i l) b (pos 0))) (suc a) k))
+      go : (b : Bool) → p (get_or (drop i l) a (pos 0)) ≡ b → (Moved p l₀ l₀ l w (i + suc a) → Next (i + least (λ b. p (get_or (drop i l) b (pos 0))) (suc a) k)) → Next (i + cond b a (least (λ b. p (get_or (drop i l) b (pos 0))) (suc a) k))
       go true t f = (m, λ h. sym here ∙ t)
-      go false t f = let n : i + a + 1 ≡ i + suc a = omega arith in f (rw n at (moved_past p l₀ l w (i + a) m (omega arith) (sym here ∙ t)))
+      go false t f = let n : i + a + 1 ≡ i + suc a = omega arith in f (rw n at (moved_past p l₀ l₀ l w (i + a) m (omega arith) (sym here ∙ t)))
 
 pub loop-i-init : goal.loop-i-init
 loop-i-init c =
     let l = c.args.list.now in
     let p = is_item c.args.items.run.now in
-    subst (Next p l l 0) (zero-add _ ∙ sym c.next_item-i.ensures) (next-is p l l 0 0 (length l) 0 (omega arith) (moved_none p l))
+    subst (Next p l l 0) (zero-add _ ∙ sym c.next_item-i.ensures) (next-is p l l 0 0 (length l) 0 (omega arith) (moved_none p l l refl))
 
 -- x, the value at i, moved to the front
 module _ (p : ℤ → Bool) (l₀ l : List ℤ) (w i : ℕ) (n : Next p l₀ l w i) (h : i < length l₀) (x : ℤ) (e : x ≡ get_or l i (pos 0)) where
   abbrev left : List ℤ
   left = set l w x
 
-  kept : Moved p l₀ left (w + 1) (i + 1)
-  kept = rw (e ∙ moved_read p l₀ l w i n.0) (moved_kept p l₀ l w i n.0 h (n.1 h))
+  kept : Moved p l₀ l₀ left (w + 1) (i + 1)
+  kept = rw (e ∙ moved_read p l₀ l w i n.0) (moved_kept p l₀ l₀ l w i n.0 h (n.1 h))
 
   -- what is lent on
   part_is : take (length left - (i + 1)) (drop (i + 1) left) ≡ drop (i + 1) left

@@ -1,82 +1,90 @@
 -- `compose::filters::lay_list` meets its contract: the domain is laid, and narrowed.
-use mathlib.Core.List.{List, foldl, map}
+use mathlib.Core.List.{List, foldl}
 use mathlib.Core.Path.{◌∙◌, ◌≡◌, ap, sym}
-use Prim.Native.Nat.{◌+◌, ◌-◌, ◌/◌, ◌≤◌, suc, ℕ}
+use Prim.Native.Nat.{◌+◌, ◌-◌, ◌≤◌, suc}
 use native.Mathlib.Numerals.{add-one}
 use native.Mathlib.Omega.{arith}
 use lib.IntN.{ℤ}
 use lib.ListN.{drop, length, take}
-use lib.Seq.{length_front, length-take-le, take_at}
-use Rattle.lists.specs.Lists.{sum_n}
-use Rattle.spec.specs.Code.{as_record, domain_length}
+use lib.Seq.{length-take-le, take_at}
+use Rattle.lists.specs.Lists.{concat_map}
+use Rattle.spec.specs.Code.{InScale, as_record}
 use Rattle.spec.specs.Domain.{domain}
-use Rattle.spec.specs.Record.{field_by, field_of, record_at, records_of}
-use Rattle.spec.specs.declared.records.Record as code
+use Rattle.spec.specs.Record.{constraint_of, field_by, field_of, records_of}
 use Rattle.registry.specs.Code.{group_in}
-use Rattle.compose.specs.Maps.{narrow_by}
-use Rattle.compose.specs.Code.{FieldIn, constraints_in}
+use Rattle.compose.specs.Maps.{allowed, narrow_by}
+use Rattle.compose.specs.Code.{constraints_in}
 use Rattle.compose.proofs.Laid.{field_allowed, field_length, field_room, field_scaled, front_part}
+use Rattle.compose.proofs.Positions.{fold_turn}
+use Rattle.compose.proofs.filters.lay_list.Goals.{After-domain_len-len}
 use Rattle.compose.proofs.filters.lay_list.Goals as goal
 
--- what is known once the length of the domain is
-module _ (h : code.Record) (file values : List ℕ) (head end : ℕ) (is : FieldIn file head end) (e : as_record h ≡ record_at file head) (r : records_of values ≡ take (end - (head + 1)) (drop (head + 1) (records_of file))) where
-  -- the values of the field
-  values-are : records_of values ≡ take (end - suc head) (drop (suc head) (records_of file))
-  values-are = rw (add-one head) at r
+-- the values of the field, and the length of its domain
+values_are : (c : After-domain_len-len) → records_of c.part-values.result.now ≡ take (c.args.end - suc c.args.head) (drop (suc c.args.head) (records_of c.args.rules.file.now))
+values_are c = rw (add-one c.args.head) at c.part-values.ensures.records
 
-  module _ (len : ℕ) (d : len ≡ domain_length (as_record h) (length values / 32)) where
-    -- the length of its domain
-    long : len ≡ length (domain (field_by h.b (as_record h) (records_of values)))
-    long = d ∙ field_length h file values head end is e values-are
+length_is : (c : After-domain_len-len) → c.domain_len-len.result ≡ length (domain (field_by c.record_at-h.result.b (as_record c.record_at-h.result) (records_of c.part-values.result.now)))
+length_is c = c.domain_len-len.ensures ∙ field_length c.record_at-h.result c.args.rules.file.now c.part-values.result.now c.args.head c.args.end c.requires.0 c.record_at-h.ensures.read (values_are c)
 
-    -- for which there is room
-    room : (list : List ℤ) → sum_n (map (λ f. length (domain f)) (field_of (group_in file head end))) ≤ length list → len ≤ length list
-    room list s = let r = field_room h file values head end is e values-are (length list) s in omega (arith, long)
+-- for which there is room
+room : (c : After-domain_len-len) → c.domain_len-len.result ≤ length c.args.list.now
+room c = let r = field_room c.record_at-h.result c.args.rules.file.now c.part-values.result.now c.args.head c.args.end c.requires.0 c.record_at-h.ensures.read (values_are c) (length c.args.list.now) c.requires.1 in omega (arith, length_is c)
+
+cut : (c : After-domain_len-len) → length (take c.domain_len-len.result c.args.list.now) ≡ c.domain_len-len.result
+cut c = length-take-le c.domain_len-len.result c.args.list.now (room c)
+
+asked : (c : After-domain_len-len) → InScale c.record_at-h.result.p c.record_at-h.result.q c.record_at-h.result.r × (length (take c.domain_len-len.result c.args.list.now) ≡ length (domain (field_by c.record_at-h.result.b (as_record c.record_at-h.result) (records_of c.part-values.result.now))))
+asked c = (field_scaled c.record_at-h.result c.args.rules.file.now c.args.head c.args.end c.requires.0 c.record_at-h.ensures.read, cut c ∙ length_is c)
+
+-- the allowed list is the domain narrowed
+narrowed : (c : After-domain_len-len) → foldl (narrow_by c.args.f) (domain (field_by c.record_at-h.result.b (as_record c.record_at-h.result) (records_of c.part-values.result.now))) (constraints_in c.args.rules.file.now c.args.rules.heads.now) ≡ concat_map (λ d. allowed (constraints_in c.args.rules.file.now c.args.rules.heads.now) c.args.f d) (field_of (group_in c.args.rules.file.now c.args.head c.args.end))
+narrowed c = field_allowed c.record_at-h.result c.args.rules.file.now c.part-values.result.now c.args.head c.args.end c.requires.0 c.record_at-h.ensures.read (values_are c) (constraints_in c.args.rules.file.now c.args.rules.heads.now) c.args.f
 
 pub slice_bounds-lay_domain-end : goal.slice_bounds-lay_domain-end
-slice_bounds-lay_domain-end c = room c.record_at-h.result c.args.rules.file.now c.part-values.result.now c.args.head c.args.end c.requires.0 c.record_at-h.ensures.read c.part-values.ensures.records c.domain_len-len.result c.domain_len-len.ensures c.args.list.now c.requires.1
+slice_bounds-lay_domain-end c = room (goal.at.slice_bounds-lay_domain-end c).After-domain_len-len
 
-pub slice_bounds-lay_domain-end-2 : goal.slice_bounds-lay_domain-end-2
-slice_bounds-lay_domain-end-2 c =
-    let m = room c.record_at-h.result c.args.rules.file.now c.part-values.result.now c.args.head c.args.end c.requires.0 c.record_at-h.ensures.read c.part-values.ensures.records c.domain_len-len.result c.domain_len-len.ensures c.args.list.now c.requires.1 in
-    sym (length-take-le c.domain_len-len.result c.args.list.now m)
+pub slice_bounds-lay_domain-end-in_default : goal.slice_bounds-lay_domain-end-in_default
+slice_bounds-lay_domain-end-in_default c = sym (cut (goal.at.slice_bounds-lay_domain-end-in_default c).After-domain_len-len)
 
 pub lay_domain-requires : goal.lay_domain-requires
-lay_domain-requires c =
-    let h = c.record_at-h in
-    let d = c.domain_len-len in
-    let m = room h.result c.args.rules.file.now c.part-values.result.now c.args.head c.args.end c.requires.0 h.ensures.read c.part-values.ensures.records d.result d.ensures c.args.list.now c.requires.1 in
-    let n = long h.result c.args.rules.file.now c.part-values.result.now c.args.head c.args.end c.requires.0 h.ensures.read c.part-values.ensures.records d.result d.ensures in
-    (field_scaled h.result c.args.rules.file.now c.args.head c.args.end c.requires.0 h.ensures.read, length-take-le d.result c.args.list.now m ∙ n)
+lay_domain-requires c = asked (goal.at.lay_domain-requires c).After-domain_len-len
 
--- the list with the domain in front is as long as it was
-pub slice_bounds-narrow_all-end : goal.slice_bounds-narrow_all-end
-slice_bounds-narrow_all-end c =
-    let m = room c.record_at-h.result c.args.rules.file.now c.part-values.result.now c.args.head c.args.end c.requires.0 c.record_at-h.ensures.read c.part-values.ensures.records c.domain_len-len.result c.domain_len-len.ensures c.args.list.now c.requires.1 in
-    let q = length_front c.args.list.now c.lay_domain.new.list c.domain_len-len.result c.lay_domain.auto.list in
-    omega arith
+pub slice_bounds-lay_narrowed-end : goal.slice_bounds-lay_narrowed-end
+slice_bounds-lay_narrowed-end c = room (goal.at.slice_bounds-lay_narrowed-end c).After-domain_len-len
 
-pub slice_bounds-narrow_all-end-2 : goal.slice_bounds-narrow_all-end-2
-slice_bounds-narrow_all-end-2 c =
-    let m = room c.record_at-h.result c.args.rules.file.now c.part-values.result.now c.args.head c.args.end c.requires.0 c.record_at-h.ensures.read c.part-values.ensures.records c.domain_len-len.result c.domain_len-len.ensures c.args.list.now c.requires.1 in
-    let q = length_front c.args.list.now c.lay_domain.new.list c.domain_len-len.result c.lay_domain.auto.list in
-    sym (length-take-le c.domain_len-len.result _ (omega arith))
+pub slice_bounds-lay_narrowed-end-2 : goal.slice_bounds-lay_narrowed-end-2
+slice_bounds-lay_narrowed-end-2 c = sym (cut (goal.at.slice_bounds-lay_narrowed-end-2 c).After-domain_len-len)
 
+pub lay_narrowed-kept-requires-clause-room : goal.lay_narrowed-kept-requires-clause-room
+lay_narrowed-kept-requires-clause-room c = asked (goal.at.lay_narrowed-kept-requires-clause-room c).After-domain_len-len
+
+-- no constraint narrows it
+pub returns-in_default : goal.returns-in_default
+returns-in_default c =
+    let d = (goal.at.returns-in_default c).After-domain_len-len in
+    let len = c.domain_len-len.result in
+    let e = sym (c.in_default.ensures _) ∙ narrowed d in
+    record {
+      count = length_is d ∙ ap length e;
+      front = take_at c.lay_domain.new.list (drop len c.args.list.now) len (c.lay_domain.auto.list ∙ cut d) ∙ c.lay_domain.ensures ∙ e;
+    }
+
+-- the first that does, and those behind it
 pub returns : goal.returns
 returns c =
-    let len = c.domain_len-len.result in
-    let h = c.record_at-h in
-    let cs = constraints_in c.args.rules.file.now c.args.rules.heads.now in
-    let laid = c.lay_domain.new.list in
-    let n = c.narrow_all.ensures in
-    let m = room h.result c.args.rules.file.now c.part-values.result.now c.args.head c.args.end c.requires.0 h.ensures.read c.part-values.ensures.records len c.domain_len-len.ensures c.args.list.now c.requires.1 in
-    let front =
-    take_at laid (drop len c.args.list.now) len (c.lay_domain.auto.list ∙ length-take-le len c.args.list.now m)
-    ∙ c.lay_domain.ensures
-    in
+    let d = (goal.at.returns c).After-domain_len-len in
+    let file = c.args.rules.file.now in
+    let heads = c.args.rules.heads.now in
+    let k = c.in-Some.k in
+    let by = narrow_by c.args.f in
+    let first = c.lay_narrowed-kept in
+    let rest = c.narrow_from in
+    let begun = front_part first.result _ first.new.list (drop c.domain_len-len.result c.args.list.now) first.ensures.count first.ensures.front in
     let e =
-    ap (λ (z : List ℤ). foldl (narrow_by c.args.f) z cs) front
-    ∙ field_allowed h.result c.args.rules.file.now c.part-values.result.now c.args.head c.args.end c.requires.0 h.ensures.read (values-are h.result c.args.rules.file.now c.part-values.result.now c.args.head c.args.end c.requires.0 h.ensures.read c.part-values.ensures.records) cs c.args.f
+    ap (λ (z : List ℤ). foldl by z (constraints_in file (drop (k + 1) heads))) begun
+    ∙ sym (fold_turn by constraint_of file heads k _ c.in-Some.ensures.0)
+    ∙ sym (c.in-Some.ensures.2 _)
+    ∙ narrowed d
     in
-    let count = n.count ∙ ap length e in
-    record { count = count; front = front_part c.narrow_all.result _ c.narrow_all.new.list _ count (n.front ∙ e) }
+    let count = rest.ensures.count ∙ ap length e in
+    record { count = count; front = front_part rest.result _ rest.new.list _ count (rest.ensures.front ∙ e) }

@@ -1,24 +1,18 @@
 -- `compose::filters::narrow_by` meets its contract.
-use Rattle.std.proofs.Common.{◌∙◌, ◌≡◌, ap, sym, refl, add-one, rules, Bool, List, ℤ, ℕ, ◌+◌, get_or, length}
+use Rattle.std.proofs.Common.{◌∙◌, ap, sym, refl, add-one, rules, List, ℤ, ◌+◌, get_or, length}
 use mathlib.Core.List.{foldl}
-use Rattle.lists.specs.Lists.{filter, or_else, over}
+use Rattle.lists.specs.Lists.{filter, over}
 use Rattle.spec.specs.Code.{as_kind}
 use Rattle.spec.specs.Kind.{bitmask, constraint, oneof, range}
 use Rattle.spec.specs.Record.{constraint_of, records_of}
 use Rattle.registry.specs.Code.{group_in, passes, test_in}
 use Rattle.compose.specs.Maps.{narrow_by}
-use Rattle.compose.proofs.Narrowing.{is_item, left-none, left-some, narrowed_as}
+use Rattle.compose.proofs.Narrowing.{Met, is_item, left-none, left-some, narrowed_as}
 use Rattle.compose.proofs.filters.narrow_by.Goals.{Joined-kind, in-Bitmask, in-Oneof, in-Range}
 use Rattle.compose.proofs.filters.narrow_by.Goals as goal
 
--- what a constraint that narrows keeps, and what was moved to the front for it
-record Met (l left : List ℤ) (met : ℕ) (narrowed : List ℤ) : Type 0 where
-  p : ℤ → Bool
-  count : met ≡ length (filter p l)
-  front : left ≡ over (filter p l) l
-  is : narrowed ≡ or_else (filter p l) l
-
-met : (c : Joined-kind) → Met c.args.list.now c.match-kind.list c.match-kind.met (foldl (narrow_by c.args.f) c.args.list.now (constraint_of (group_in c.args.rules.file.now (get_or c.args.rules.heads.now c.args.k 0) (get_or c.args.rules.heads.now (c.args.k + 1) 0))))
+-- what the constraint keeps
+met : (c : Joined-kind) → Met c.args.list.now c.args.list.now c.match-kind.list c.match-kind.met (foldl (narrow_by c.args.f) c.args.list.now (constraint_of (group_in c.args.rules.file.now (get_or c.args.rules.heads.now c.args.k 0) (get_or c.args.rules.heads.now (c.args.k + 1) 0))))
 met c =
     let h = c.record_at-h.result in
     let run = c.part-run.result.now in

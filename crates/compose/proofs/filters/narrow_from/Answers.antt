@@ -1,4 +1,4 @@
--- `compose::filters::narrow_all` meets its contract.
+-- `compose::filters::narrow_from` meets its contract.
 use Rattle.std.proofs.Common.{◌∙◌, ◌+◌, ◌≤◌, ◌++◌, ap, subst, sym, arith, List, ℤ, drop, get_or, length, take}
 use mathlib.Core.List.{foldl}
 use lib.Seq.{length-take-le, take-length}
@@ -8,10 +8,10 @@ use Rattle.compose.specs.Maps.{narrow_by}
 use Rattle.compose.specs.Code.{constraints_in}
 use Rattle.compose.proofs.Narrowing.{over_front, over_room}
 use Rattle.compose.proofs.Positions.{fold_end, fold_turn}
-use Rattle.compose.proofs.filters.narrow_all.Goals as goal
+use Rattle.compose.proofs.filters.narrow_from.Goals as goal
 
 pub loop-k-init : goal.loop-k-init
-loop-k-init c = (omega arith, ap (λ (z : List ℤ). foldl (narrow_by c.args.f) z (constraints_in c.args.rules.file.now c.args.rules.heads.now)) (take-length c.args.list.now))
+loop-k-init c = (omega arith, ap (λ (z : List ℤ). foldl (narrow_by c.args.f) z (constraints_in c.args.rules.file.now (drop c.args.first c.args.rules.heads.now))) (take-length c.args.list.now))
 
 pub loop-k-preserved : goal.loop-k-preserved
 loop-k-preserved c =
