@@ -200,11 +200,11 @@ fn lay_narrowed(
     ensures front { take result list.new ≡ foldl (narrow_by f) (domain (field_by h.b (as_record h) (records_of values.now))) (constraint_of (group_in rules.entry.file.now (get_or rules.entry.heads.now k 0) (get_or rules.entry.heads.now (k + 1) 0))) }
 {
     let c = record_at(rules.file, rules.heads[k]);
-    let kind = c.kind;
+    let (kind, p, q) = (c.kind, c.p, c.q);
     // Two arms that are alike, as in `narrow_by`.
     let kept = match kind {
-        Kind::Range => lay_passing(h, values, list, |v| meets(Kind::Range, c.p, c.q, &[], v)),
-        Kind::Bitmask => lay_passing(h, values, list, |v| meets(Kind::Bitmask, c.p, c.q, &[], v)),
+        Kind::Range => lay_passing(h, values, list, move |v| meets(Kind::Range, p, q, &[], v)),
+        Kind::Bitmask => lay_passing(h, values, list, move |v| meets(Kind::Bitmask, p, q, &[], v)),
         _ => {
             lay_domain(h, values, list);
             return narrow_by(rules, k, f, list);
