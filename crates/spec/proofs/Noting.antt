@@ -2,68 +2,80 @@
 use Rattle.std.specs.Prelude.{Result, Ok, Err, IfOk}
 use mathlib.Core.Bool.{Bool, ◌||◌, false, true, true≢false}
 use mathlib.Core.List.{List, [], ◌++◌, ◌∷◌}
-use mathlib.Core.Option.{none}
+use mathlib.Core.Option.{Option, none}
 use mathlib.Core.Path.{◌∙◌, ◌≡◌, ap, ap₂, refl, subst, sym}
 use Prim.Native.Nat.{◌+◌, ◌-◌, ◌/◌, ◌<◌, ◌≤◌, suc, zero, ℕ}
 use native.Mathlib.Nat.{add-zero}
 use native.Mathlib.Numerals.{add-one}
 use native.Mathlib.Omega.{arith}
 use lib.Dec.{eqb, ltb}
-use lib.ListN.{drop, drop_of_length-le, get_or, length, length-drop, length-set, length-take, set, take}
-use lib.Seq.{append_snoc, drop-cons, drop-drop, get_or-drop, get_or-take, length-take-le, take-suc-set}
-use Rattle.lists.specs.Lists.{is_empty}
+use lib.ListN.{drop, drop_of_length-le, get_or, length, length-append, length-drop, length-take, replicate, set, take}
+use lib.Seq.{append_snoc, drop-drop, drop-set-lt, get_or-drop, get_or-take, length-take-le, set_split, take-append_seam, take-suc-set}
+use Rattle.lists.specs.Lists.{is_empty, over}
 use Rattle.lists.proofs.Tests.{or_split}
-use Rattle.spec.specs.Code.{AllNoted, Noted, heads_before}
+use Rattle.spec.specs.Code.{AllNoted, heads_before, heads_noted, noting}
 use Rattle.spec.specs.Kind.{Kind, constraint, field, is_member, member, projector, section_of, unknown}
 use Rattle.spec.specs.Record.{Record, groups, heads_from, heads_of, member_run, record_at, records_of, unless_inside, unless_member, while_member}
-use Rattle.spec.specs.Refusal.{Context, after_head, first_true, head_tests, not_due, refuse, unknown_kind}
+use Rattle.spec.specs.Refusal.{Context, Refused, after_head, file_fault, first_true, head_tests, not_due, refuse, unknown_kind, unless_refused}
 use Rattle.spec.proofs.Fields.{length_records, records_from}
 use Rattle.spec.proofs.Heads.{past, past_led, past_members_lem}
 use Rattle.spec.proofs.Refusals.{first_true-none, refuse-zero}
 use Rattle.spec.proofs.Runs.{run_length}
 
 -- ---- noting
--- Nothing is noted before the first record.
-pub noted_first : (file heads : List ℕ) → Noted file heads 0 0
+-- Before the first record.
+pub noting_first : (file heads : List ℕ) → noting file heads 0 0 ≡ over (heads_of file) heads
 unfolding heads_of
-noted_first file heads = refl
+noting_first file heads = refl
 
 -- At a record.
 pub here : (file : List ℕ) (i : ℕ) → i < length file / 32 → (b : Bool) → is_member (record_at file i).kind ≡ b → heads_from i (drop i (records_of file)) ≡ unless_inside b i (heads_from (suc i) (drop (suc i) (records_of file)))
 here file i inside b e = ap (heads_from i) (records_from file i inside) ∙ ap (λ (t : Bool). unless_inside t i (heads_from (suc i) (drop (suc i) (records_of file)))) e
 
 module _ (file heads : List ℕ) (count : ℕ) where
-  module _ (i : ℕ) (noted : Noted file heads count i) where
-    pub noted_member : i < length file / 32 → is_member (record_at file i).kind ≡ true → Noted file heads count (i + 1)
-    noted_member inside e = rw (add-one i) (ap (λ (l : List ℕ). take count heads ++ l) (sym (here file i inside true e)) ∙ noted)
+  module _ (i : ℕ) where
+    pub noting_member : i < length file / 32 → is_member (record_at file i).kind ≡ true → noting file heads count (i + 1) ≡ noting file heads count i
+    noting_member inside e = rw (add-one i) (ap (λ (l : List ℕ). over (take count heads ++ l) heads) (sym (here file i inside true e)))
 
-    pub noted_head : i < length file / 32 → is_member (record_at file i).kind ≡ false → count < length heads → Noted file (set heads count i) (count + 1) (i + 1)
-    noted_head inside e l =
-        let rest = heads_from (suc i) (drop (suc i) (records_of file)) in
-        rw (add-one i, add-one count)
-        (ap (λ (front : List ℕ). front ++ rest) (take-suc-set heads count i l) ∙ append_snoc (take count heads) i rest ∙ ap (λ (l : List ℕ). take count heads ++ l) (sym (here file i inside false e)) ∙ noted)
+    -- The places as they are after another is noted.
+    one_more : (rest : List ℕ) → count < length heads → over (take (count + 1) (set heads count i) ++ rest) (set heads count i) ≡ over (take count heads ++ (i ∷ rest)) heads
+    one_more rest l =
+        let new = take count heads ++ (i ∷ rest) in
+        let front : take (count + 1) (set heads count i) ++ rest ≡ new =
+        rw (add-one count) (ap (λ (l : List ℕ). l ++ rest) (take-suc-set heads count i l) ∙ append_snoc (take count heads) i rest)
+        in
+        let long : count < length new = omega (arith, length-append (take count heads) (i ∷ rest), length-take-le count heads (omega arith)) in
+        ap (λ (l : List ℕ). over l (set heads count i)) front ∙ ap (λ (l : List ℕ). new ++ l) (drop-set-lt (length new) heads count i long)
+
+    pub noting_head : i < length file / 32 → is_member (record_at file i).kind ≡ false → count < length heads → noting file (set heads count i) (count + 1) (i + 1) ≡ noting file heads count i
+    noting_head inside e l = rw (add-one i) (one_more (heads_from (suc i) (drop (suc i) (records_of file))) l ∙ ap (λ (l : List ℕ). over (take count heads ++ l) heads) (sym (here file i inside false e)))
 
     -- after the last record
-    pub noted_end : i ≡ length file / 32 → count < length heads → AllNoted file (set heads count i)
-    noted_end is l =
+    pub noting_end : i ≡ length file / 32 → count < length heads → set heads count i ≡ noting file heads count i
+    noting_end is l =
         let none : drop i (records_of file) ≡ [] = drop_of_length-le (records_of file) {i = i} (omega (arith, length_records file)) in
-        let all : take (count + 1) (set heads count i) ≡ heads_of file =
-        ap (λ (n : ℕ). take n (set heads count i)) (add-one count) ∙ take-suc-set heads count i l ∙ ap (λ (rs : List Record). take count heads ++ heads_from i rs) (sym none) ∙ noted
-        in
-        let long : length (heads_of file) ≡ count + 1 = sym (ap length all) ∙ length-take-le (count + 1) (set heads count i) (omega (arith, length-set heads count i)) in
-        ap (λ (n : ℕ). take n (set heads count i)) long ∙ all
+        let long : suc count ≡ length (take count heads ++ (i ∷ [])) = omega (arith, length-append (take count heads) (i ∷ []), length-take-le count heads (omega arith)) in
+        set_split heads count i l ∙ sym (append_snoc (take count heads) i (drop (suc count) heads))
+        ∙ ap (λ (k : ℕ). (take count heads ++ (i ∷ [])) ++ drop k heads) long ∙ ap (λ (rs : List Record). over (take count heads ++ heads_from i rs) heads) (sym none)
 
   -- The members passed at once.
-  runs : (d i : ℕ) → i + d ≤ length file / 32 → ((j : ℕ) → i ≤ j → j < i + d → is_member (record_at file j).kind ≡ true) → Noted file heads count i → Noted file heads count (i + d)
-  runs zero i l each noted = subst (Noted file heads count) (sym (add-zero i)) noted
-  runs (suc d) i l each noted =
-      let e : i + 1 + d ≡ i + suc d = omega arith in
-      subst (Noted file heads count) e (runs d (i + 1) (omega arith) (λ j g k. each j (omega arith) (omega arith)) (noted_member i noted (omega arith) (each i (omega arith) (omega arith))))
+  runs : (d i : ℕ) → i + d ≤ length file / 32 → ((j : ℕ) → i ≤ j → j < i + d → is_member (record_at file j).kind ≡ true) → noting file heads count (i + d) ≡ noting file heads count i
+  runs zero i l each = ap (noting file heads count) (add-zero i)
+  runs (suc d) i l each =
+      let e : i + suc d ≡ i + 1 + d = omega arith in
+      ap (noting file heads count) e ∙ runs d (i + 1) (omega arith) (λ j g k. each j (omega arith) (omega arith)) ∙ noting_member i (omega arith) (each i (omega arith) (omega arith))
 
-  pub noted_run : (i k : ℕ) → i ≤ k → k ≤ length file / 32 → ((j : ℕ) → i ≤ j → j < k → is_member (record_at file j).kind ≡ true) → Noted file heads count i → Noted file heads count k
-  noted_run i k g inside each noted =
-      let e : i + (k - i) ≡ k = omega arith in
-      subst (Noted file heads count) e (runs (k - i) i (omega arith) (λ j a b. each j a (omega arith)) noted)
+  pub noting_run : (i k : ℕ) → i ≤ k → k ≤ length file / 32 → ((j : ℕ) → i ≤ j → j < k → is_member (record_at file j).kind ≡ true) → noting file heads count k ≡ noting file heads count i
+  noting_run i k g inside each =
+      let e : k ≡ i + (k - i) = omega arith in
+      ap (noting file heads count) e ∙ runs (k - i) i (omega arith) (λ j a b. each j a (omega arith))
+
+-- So all are noted in the end, where the file is not refused.
+pub accepted_noted : (file heads old : List ℕ) → file_fault file ≡ none → heads ≡ heads_noted file old → AllNoted file heads
+accepted_noted file heads old fine e =
+    let places = heads_of file in
+    let noted = e ∙ ap (λ (o : Option Refused). unless_refused o (over places old) (replicate (length old) 0)) fine in
+    ap (take (length places)) noted ∙ take-append_seam places (drop (length places) old)
 
 -- What holds of a value holds of a result that has it.
 pub if-same : {T E : Type 0} (r : Result T E) (x : T) (P : T → Type 0) → P x → IfOk r (λ y. y ≡ x) → IfOk r P

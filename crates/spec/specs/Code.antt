@@ -1,10 +1,10 @@
 -- What the code's types stand for, and what it computes on the way where no definition of the requirement says it.
-use Rattle.std.specs.Prelude.{Bool, cond, true, false, ◌&&◌, ◌||◌, List, ◌++◌, map, ◌≡◌, ℕ, zero, suc, ◌+◌, ◌-◌, ◌*◌, ◌/◌, ◌^◌, ◌≤◌, ◌<◌, eqb, leb, ltb, ℤ, pos, nat_abs, length, take, drop, Result, Ok, Err, IsErrAnd, MatchResult}
+use Rattle.std.specs.Prelude.{Bool, cond, true, false, ◌&&◌, ◌||◌, List, ◌++◌, map, ◌≡◌, ℕ, zero, suc, ◌+◌, ◌-◌, ◌*◌, ◌/◌, ◌^◌, ◌≤◌, ◌<◌, eqb, leb, ltb, ℤ, pos, nat_abs, length, take, drop, replicate, Result, Ok, Err, IsErrAnd, MatchResult}
 use Rattle.std.proofs.Math.Option.{Option, none, some}
 use Rattle.lists.specs.Integers.{eq_z}
-use Rattle.lists.specs.Lists.{any}
+use Rattle.lists.specs.Lists.{any, over}
 use Rattle.spec.specs.Domain.{domain, first_multiple, how_many, step_of}
-use Rattle.spec.specs.Refusal.{Answer, refused, accepted, Context, Refused, ◌▷◌, on_scale, negative, members_fault, groups_fault}
+use Rattle.spec.specs.Refusal.{Answer, refused, accepted, Context, Refused, ◌▷◌, on_scale, negative, members_fault, groups_fault, file_fault, unless_refused}
 use Rattle.spec.specs.Kind as kinds
 use Rattle.spec.specs.Kind.{section_of, Kind, field, unknown, constraint, projector, member, Use, unused, number, natural, own, names, MemberKind, value, item, pair, key, disable, assign, axis, ConstraintKind, range, even, eq, neq, lt, gt, le, ge, oneof, cross, enable_mask, bitmask, enable_set, ProjectorKind, sum, identity, parity, decompose}
 use Rattle.spec.specs.Shape.{Shape}
@@ -240,11 +240,15 @@ turn_good i (Err r) = Unit {0}
 abbrev pub heads_before : Context → ℕ
 heads_before c = c.fields + c.constraints + cond (eqb c.section 2) 1 0
 
--- The places of the heads before record i stand in front of an array, count of them.
-abbrev pub Noted : List ℕ → List ℕ → ℕ → ℕ → Type 0
-Noted file heads count i = take count heads ++ heads_from i (drop i (records_of file)) ≡ heads_of file
+-- An array in which count heads are noted, as it will stand once those from record i on are noted too, and behind them the end.
+abbrev pub noting : List ℕ → List ℕ → ℕ → ℕ → List ℕ
+noting file heads count i = over (take count heads ++ heads_from i (drop i (records_of file))) heads
 
--- The places of all heads stand in front of it, and behind them the end of the file.
+-- What stands in the array lent to a call afterwards: the places of the heads and the end of the file, over what stood there; zeros where the file is refused.
+abbrev pub heads_noted : List ℕ → List ℕ → List ℕ
+heads_noted file old = unless_refused (file_fault file) (over (heads_of file) old) (replicate (length old) 0)
+
+-- The places of all heads stand in front of an array, and behind them the end of the file.
 abbrev pub AllNoted : List ℕ → List ℕ → Type 0
 AllNoted file heads = take (length (heads_of file)) heads ≡ heads_of file
 

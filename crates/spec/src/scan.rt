@@ -1,9 +1,10 @@
 // Refusals 2 to 9, in one pass over the records.
 ghost use Rattle.std.specs.Prelude.{◌≡◌, true, false, ℕ, ◌+◌, ◌-◌, ◌/◌, ◌≤◌, ◌<◌, length, take, drop, IfOk, OnOk};
+ghost use Rattle.lists.specs.Lists.{over};
 ghost use Rattle.spec.specs.Kind.{is_member};
-ghost use Rattle.spec.specs.Record.{records_of, record_at};
+ghost use Rattle.spec.specs.Record.{heads_of, records_of, record_at};
 ghost use Rattle.spec.specs.Refusal.{list_fault, records_fault, refuse};
-ghost use Rattle.spec.specs.Code.{AllNoted, Noted, after_turn, as_context, as_fault, as_kind, as_record, heads_before, left_at, turn_good};
+ghost use Rattle.spec.specs.Code.{after_turn, as_context, as_fault, as_kind, as_record, heads_before, left_at, noting, turn_good};
 
 use crate::context::Context;
 use crate::domains::part;
@@ -41,10 +42,9 @@ fn take_head(
     m: Record,
     heads: &mut [usize; HEADS],
 ) -> Result<State, Refusal>
-    requires inside { (state.head < i) × (i < length file.now / 32) × (as_record m ≡ record_at file.now i) × (is_member (as_kind m.kind) ≡ false) }
-    requires noted { Noted file.now heads.old (heads_before (as_context state.context)) i }
+    requires { (state.head < i) × (i < length file.now / 32) × (as_record m ≡ record_at file.now i) × (is_member (as_kind m.kind) ≡ false) }
     ensures left { (left_at file.now state i ≡ after_turn file.now i result) × turn_good i result }
-    ensures noted { IfOk result (λ next. Noted file.now heads.new (heads_before (as_context next.context)) (i + 1)) }
+    ensures noted { IfOk result (λ next. noting file.now heads.new (heads_before (as_context next.context)) (i + 1) ≡ noting file.now heads.old (heads_before (as_context state.context)) i) }
 {
     close_list(file, state.head, i)?;
     refuse_at(judge_head(m, state.context), i + 1)?;
@@ -72,10 +72,9 @@ fn take_member(file: &[u8], i: usize, state: State, m: Record) -> Result<State, 
 }
 
 fn take(file: &[u8], i: usize, state: State, heads: &mut [usize; HEADS]) -> Result<State, Refusal>
-    requires inside { (state.head < i) × (i < length file.now / 32) }
-    requires noted { Noted file.now heads.old (heads_before (as_context state.context)) i }
+    requires { (state.head < i) × (i < length file.now / 32) }
     ensures left { (left_at file.now state i ≡ after_turn file.now i result) × turn_good i result }
-    ensures noted { IfOk result (λ next. Noted file.now heads.new (heads_before (as_context next.context)) (i + 1)) }
+    ensures noted { IfOk result (λ next. noting file.now heads.new (heads_before (as_context next.context)) (i + 1) ≡ noting file.now heads.old (heads_before (as_context state.context)) i) }
 {
     let m = record_at(file, i);
     if m.kind.is_member() {
@@ -87,10 +86,9 @@ fn take(file: &[u8], i: usize, state: State, heads: &mut [usize; HEADS]) -> Resu
 
 // After the last record, whose end is noted behind the projector.
 fn close(file: &[u8], state: State, heads: &mut [usize; HEADS]) -> Result<(), Refusal>
-    requires inside { state.head < length file.now / 32 }
-    requires noted { Noted file.now heads.old (heads_before (as_context state.context)) (length file.now / 32) }
+    requires { state.head < length file.now / 32 }
     ensures left { as_fault result ≡ left_at file.now state (length file.now / 32) }
-    ensures noted { OnOk result (AllNoted file.now heads.new) }
+    ensures noted { OnOk result (heads.new ≡ noting file.now heads.old (heads_before (as_context state.context)) (length file.now / 32)) }
 {
     let n = file.len() / 32;
     close_list(file, state.head, n)?;
@@ -119,10 +117,9 @@ fn pass_plain(file: &[u8], state: State, i: usize) -> usize
 
 // The records after the first, which is a head.
 fn scan_from(file: &[u8], first: State, heads: &mut [usize; HEADS]) -> Result<(), Refusal>
-    requires inside { (first.head < 1) × (1 ≤ length file.now / 32) }
-    requires noted { Noted file.now heads.old (heads_before (as_context first.context)) 1 }
+    requires { (first.head < 1) × (1 ≤ length file.now / 32) }
     ensures left { as_fault result ≡ left_at file.now first 1 }
-    ensures noted { OnOk result (AllNoted file.now heads.new) }
+    ensures noted { OnOk result (heads.new ≡ noting file.now heads.old (heads_before (as_context first.context)) 1) }
 {
     let n = file.len() / 32;
     let mut state = first;
@@ -138,7 +135,7 @@ fn scan_from(file: &[u8], first: State, heads: &mut [usize; HEADS]) -> Result<()
 // Refusals 2 to 9. Where the heads stand is noted here: a pass of its own over a long list costs half as much as the test of its members. Of a refused file nothing is said of the array.
 pub(crate) fn scan(file: &[u8], heads: &mut [usize; HEADS]) -> Result<(), Refusal>
     ensures fault { as_fault result ≡ records_fault (records_of file.now) }
-    ensures noted { OnOk result (AllNoted file.now heads.new) }
+    ensures noted { OnOk result (heads.new ≡ over (heads_of file.now) heads.old) }
 {
     let is_empty = file.len() < 32;
     if is_empty {

@@ -1,9 +1,11 @@
 // Refusals 1 to 10, or what the layers above need.
 ghost use Rattle.std.specs.Prelude.{◌≡◌, MatchResult, OnOk};
 ghost use Rattle.std.proofs.Math.Option.{none, some};
+ghost use Rattle.lists.specs.Lists.{over};
+ghost use Rattle.spec.specs.Record.{heads_of};
 ghost use Rattle.spec.specs.Refusal.{answer, file_fault};
 ghost use Rattle.spec.specs.Shape.{shape_of};
-ghost use Rattle.spec.specs.Code.{AllNoted, as_answer, as_refused, as_shape};
+ghost use Rattle.spec.specs.Code.{as_answer, as_refused, as_shape, heads_noted};
 ghost use Rattle.spec.specs.Props.{facts};
 
 use crate::refusal::{Fault, Refusal};
@@ -26,7 +28,7 @@ pub struct Shape {
 // Where the heads stand is noted in the array lent; of a refused file nothing is said of it.
 fn validate_noting(file: &[u8], heads: &mut [usize; HEADS]) -> Result<Shape, Refusal>
     ensures answer { as_answer result ≡ answer (file_fault file.now) (shape_of file.now) }
-    ensures noted { OnOk result (AllNoted file.now heads.new) }
+    ensures noted { OnOk result (heads.new ≡ over (heads_of file.now) heads.old) }
 {
     let len = file.len();
     if (len % 32 != 0) | (65536 < len) {
@@ -65,22 +67,27 @@ pub struct Accepted<'a> {
     pub ghost shape_is: { as_shape shape ≡ shape_of file.now } by { Prim.hlevel facts },
 }
 
-// The file with its shape, or which of 1 to 10 refuses it. Where its heads stand is noted in the array lent; of a refused file nothing is said of it.
+// The file with its shape, or which of 1 to 10 refuses it. Where its heads stand is noted in front of the array lent; of a refused file it is cleared.
 pub fn accept_noting<'a>(
     file: &'a [u8],
     heads: &mut [usize; HEADS],
 ) -> Result<Accepted<'a>, Refusal>
     ensures answer { MatchResult result (λ a. a.file.now ≡ file.now) (λ r. file_fault file.now ≡ some (as_refused r)) }
-    ensures noted { OnOk result (AllNoted file.now heads.new) }
+    ensures heads { heads.new ≡ heads_noted file.now heads.old }
 {
-    let shape = validate_noting(file, heads)?;
-    Ok(Accepted { file, shape })
+    match validate_noting(file, heads) {
+        Ok(shape) => Ok(Accepted { file, shape }),
+        Err(refusal) => {
+            heads.fill(0);
+            Err(refusal)
+        }
+    }
 }
 
 // The same for a caller that has no use for the heads.
 pub fn accept(file: &[u8]) -> Result<Accepted, Refusal>
     ensures { MatchResult result (λ a. a.file.now ≡ file.now) (λ r. file_fault file.now ≡ some (as_refused r)) }
 {
-    let mut heads = [0usize; HEADS];
-    accept_noting(file, &mut heads)
+    let shape = validate(file)?;
+    Ok(Accepted { file, shape })
 }

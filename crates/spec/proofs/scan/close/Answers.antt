@@ -1,13 +1,13 @@
 -- `spec::scan::close` meets its contract: the last list is judged, then the end.
-use Rattle.std.proofs.Common.{rules, ◌≡◌, ◌∙◌, ap, refl, subst, sym, ◌+◌, ◌/◌, ◌≤◌, ℕ, Bool, length}
+use Rattle.std.proofs.Common.{rules, ◌≡◌, ◌∙◌, ap, refl, sym, ◌+◌, ◌/◌, ◌≤◌, ℕ, Bool, length}
 use mathlib.Core.Bool.{cond}
 use mathlib.Core.Option.{none, some}
 use native.Mathlib.Omega.{arith}
 use lib.Dec.{eqb}
 use Rattle.std.proofs.lemmas.Result.{err_from_is_err_and}
-use Rattle.spec.specs.Code.{Noted, as_context, as_refused, heads_before, section_number}
+use Rattle.spec.specs.Code.{as_context, as_refused, heads_before, noting, section_number}
 use Rattle.spec.specs.Refusal.{refuse}
-use Rattle.spec.proofs.Noting.{noted_end}
+use Rattle.spec.proofs.Noting.{noting_end}
 use Rattle.spec.proofs.Turns.{at_end}
 use Rattle.spec.proofs.scan.close.Goals as goal
 
@@ -30,8 +30,8 @@ returns-then-eq-clause-noted c =
     let st = c.args.state in
     let last : c.eq.result ≡ eqb (section_number st.context.section) 2 = search rules in
     let count : heads_before (as_context st.context) ≡ c.heads.result + 1 = ap (λ (b : Bool). st.context.fields + st.context.constraints + cond b 1 0) (sym last ∙ c.if-eq.true) ∙ omega (arith, c.heads.ensures.0) in
-    let here = subst (λ (k : ℕ). Noted c.args.file.now c.args.heads.now k (length c.args.file.now / 32)) count c.requires.noted in
-    noted_end c.args.file.now c.args.heads.now (c.heads.result + 1) (length c.args.file.now / 32) here refl (omega (arith, c.heads.ensures.1, c.told-heads))
+    let n = length c.args.file.now / 32 in
+    noting_end c.args.file.now c.args.heads.now (c.heads.result + 1) n refl (omega (arith, c.heads.ensures.1, c.told-heads)) ∙ ap (λ (k : ℕ). noting c.args.file.now c.args.heads.now k n) (sym count)
 
 pub returns-else-eq : goal.returns-else-eq
 returns-else-eq c =

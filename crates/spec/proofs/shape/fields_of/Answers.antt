@@ -9,7 +9,6 @@ use Rattle.lists.proofs.Tests.{eqb_yes, yes_eq}
 use Rattle.spec.specs.Code.{capped, domain_length, section_number}
 use Rattle.spec.specs.Kind.{field, is_field, is_member, section_of}
 use Rattle.spec.specs.Record.{Record, heads_from, heads_of, record_at, records_of}
-use Rattle.spec.proofs.Fields.{length_records}
 use Rattle.spec.proofs.Heads.{Done, done-count, done_stands, field_here, fields_begin, gone_head, gone_on, other_done, section_here}
 use Rattle.spec.proofs.Runs.{run_length}
 use Rattle.spec.proofs.Sections.{field_section}
