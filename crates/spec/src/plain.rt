@@ -60,19 +60,19 @@ fn end_by_one(file: &[u8], i: usize, lead: u64) -> usize
     n
 }
 
-// The same by four, and then one by one.
+// The same by eight, and then one by one.
 // In line, so that the loop of each caller has the test of its own first bytes.
 #[inline(always)]
 pub(crate) fn plain_end(file: &[u8], i: usize, lead: u64) -> usize
     requires { i ≤ length file.now / 32 }
     ensures { (i ≤ result) × (result ≤ length file.now / 32) × ((j : ℕ) → i ≤ j → j < result → (is_plain lead (record_at file.now j) ≡ true) × InBytes (record_at file.now j)) }
 {
-    let blocks = (file.len() / 32 - i) / 4;
+    let blocks = (file.len() / 32 - i) / 8;
     for block in 0..blocks {
-        let k = i + block * 4;
-        if flaws_of_four(file, k, lead) != 0 {
+        let k = i + block * 8;
+        if flaws_of_four(file, k, lead) | flaws_of_four(file, k + 4, lead) != 0 {
             return end_by_one(file, k, lead);
         }
     }
-    end_by_one(file, i + blocks * 4, lead)
+    end_by_one(file, i + blocks * 8, lead)
 }

@@ -7,4 +7,4 @@ use Rattle.spec.specs.Record.{record_at}
 use Rattle.spec.proofs.plain.plain_end.Given as goal
 
 abbrev pub invariant-loop-block : goal.invariant-loop-block
-invariant-loop-block l = (j : ℕ) → l.i ≤ j → j < l.i + l.block * 4 → (is_plain l.lead (record_at l.file j) ≡ true) × InBytes (record_at l.file j)
+invariant-loop-block l = (j : ℕ) → l.i ≤ j → j < l.i + l.block * 8 → (is_plain l.lead (record_at l.file j) ≡ true) × InBytes (record_at l.file j)
