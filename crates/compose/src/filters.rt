@@ -92,17 +92,23 @@ fn compact_ascending(list: &mut [i64], items: IndexedRun) -> usize
     kept
 }
 
-// The items are worth an index: there are many of them and many values, or very many values in order.
-fn is_worth_index(items: usize, list: &[i64]) -> bool
-    ensures { result ≡ true → items ≤ 2048 }
+// So many items are few.
+const FEW: usize = 64;
+
+// Moves the values that are among few items to the front, where the list ascends; how many they are.
+fn compact_few(list: &mut [i64], run: &[u8]) -> usize
+    requires { (length run.now / 32 ≤ 64) × (is_ascending list.old ≡ true) }
+    ensures count { result ≡ length (filter (λ v. elem_z v (ps_of (records_of run.now))) list.old) }
+    ensures left { list.new ≡ over (filter (λ v. elem_z v (ps_of (records_of run.now))) list.old) list.old }
 {
-    items <= INDEXED && ((64 < items) & (64 < list.len()) || 512 < list.len() && is_ascending(list))
+    let mut room = [0usize; 2 * FEW];
+    compact_ascending(list, indexed(run, &mut room))
 }
 
-// Moves the values that are among the items to the front, by an index of these; how many they are.
+// The same of more items, whether the list ascends or not.
 // Out of line, for its large array: inlined, each call of the caller would touch its memory.
 #[inline(never)]
-fn compact_indexed(list: &mut [i64], run: &[u8]) -> usize
+fn compact_many(list: &mut [i64], run: &[u8]) -> usize
     requires { length run.now / 32 ≤ 2048 }
     ensures count { result ≡ length (filter (λ v. elem_z v (ps_of (records_of run.now))) list.old) }
     ensures left { list.new ≡ over (filter (λ v. elem_z v (ps_of (records_of run.now))) list.old) list.old }
@@ -115,13 +121,17 @@ fn compact_indexed(list: &mut [i64], run: &[u8]) -> usize
     compact(list, |v| items.finds_p(v))
 }
 
-// Moves the values that are among the items to the front; how many they are.
+// Moves the values that are among the items to the front; how many they are. The items are put in order where they are many and the values too, or where very many values ascend.
 fn compact_items(list: &mut [i64], run: &[u8]) -> usize
     ensures count { result ≡ length (filter (λ v. elem_z v (ps_of (records_of run.now))) list.old) }
     ensures left { list.new ≡ over (filter (λ v. elem_z v (ps_of (records_of run.now))) list.old) list.old }
 {
-    if is_worth_index(run.len() / 32, &list[..]) {
-        return compact_indexed(list, run);
+    let items = run.len() / 32;
+    if (FEW < items) & (items <= INDEXED) & (64 < list.len()) {
+        return compact_many(list, run);
+    }
+    if (items <= FEW) & (512 < list.len()) && is_ascending(&list[..]) {
+        return compact_few(list, run);
     }
     compact(list, |v| has_p(run, v))
 }

@@ -1,5 +1,5 @@
 // The members of a kept map, read through or by their index: for a parent value the child values that are paired with it.
-ghost use Rattle.std.specs.Prelude.{◌≡◌, ◌-◌, ◌/◌, ◌≤◌, ◌<◌, ℕ, ℤ, true, false, ◌&&◌, map, length, List, MatchOption};
+ghost use Rattle.std.specs.Prelude.{◌*◌, ◌≡◌, ◌-◌, ◌/◌, ◌≤◌, ◌<◌, ℕ, ℤ, true, false, ◌&&◌, map, length, List, MatchOption};
 ghost use Rattle.lists.specs.Integers.{eq_z};
 ghost use Rattle.lists.specs.Lists.{any};
 ghost use Rattle.spec.specs.Record.{entry_of, Record, record_at, records_of};
@@ -199,9 +199,9 @@ pub(crate) const INDEXED: usize = 2048;
 // Room for such an index, and as much to spare.
 pub(crate) const ROOM: usize = 4096;
 
-// The members with their index, which is laid into the room.
-pub(crate) fn indexed<'a>(run: &'a [u8], room: &'a mut [usize; ROOM]) -> IndexedRun<'a>
-    requires { length run.now / 32 ≤ 2048 }
+// The members with their index, which is laid into the room: for each a place, and one to spare.
+pub(crate) fn indexed<'a>(run: &'a [u8], room: &'a mut [usize]) -> IndexedRun<'a>
+    requires { (length run.now / 32 ≤ 2048) × (length run.now / 32 * 2 ≤ length room.old) }
     ensures { result.run.now ≡ run.now }
 {
     let n = run.len() / 32;
