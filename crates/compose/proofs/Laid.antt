@@ -19,7 +19,7 @@ use Rattle.spec.proofs.Fields.{kind_of_lem, length_records}
 use Rattle.spec.proofs.Shapes.{field_kind, length-domain}
 use Rattle.registry.specs.Code.{group_in}
 use Rattle.compose.specs.Maps.{allowed}
-use Rattle.compose.specs.Code.{FieldIn, fields_in, list_places, lists_by, packed_lists, span_of, spans_from}
+use Rattle.compose.specs.Code.{FieldIn, fields_in, list_places, lists_by, packed_lists, span_of, spans_from, used_by}
 use Rattle.compose.specs.declared.places.Span.{Span}
 use Rattle.compose.proofs.Packed.{length_spans}
 use Rattle.compose.proofs.Allowed.{allowed_le}
@@ -174,6 +174,9 @@ module _ (file fields : List ℕ) (cs : List ConstraintSpec) (size : ℕ) (scrat
 
     pub laid_places : places ≡ list_places (map length (lists_by cs (fields_in file fields)))
     laid_places = m.places-are ∙ ap (λ (ls : List (List ℤ)). list_places (map length ls)) laid_all
+
+    pub laid_used : at ≡ used_by (lists_by cs (fields_in file fields))
+    laid_used = m.ends ∙ ap used_by laid_all
 
     pub laid_scratch : (part : List ℤ) → part ≡ replicate (length (take (length scratch - at) (drop at scratch))) (pos 0) → take at scratch ++ (part ++ drop (length scratch - at) (drop at scratch)) ≡ packed_lists (lists_by cs (fields_in file fields)) size
     laid_scratch part p =

@@ -8,7 +8,7 @@ ghost use Rattle.spec.specs.Domain.{domain};
 ghost use Rattle.spec.specs.Record.{constraint_of, field_by, field_of, record_at, records_of};
 ghost use Rattle.registry.specs.Code.{group_in};
 ghost use Rattle.compose.specs.Maps.{allowed, narrow_by};
-ghost use Rattle.compose.specs.Code.{Answers, constraints_in, fields_in, FieldIn, FieldsIn, is_ascending, list_places, lists_by, packed_lists, span_of};
+ghost use Rattle.compose.specs.Code.{Answers, constraints_in, fields_in, FieldIn, FieldsIn, is_ascending, list_places, lists_by, packed_lists, span_of, used_by};
 
 use crate::finding::{Ascending, is_ascending};
 use crate::groups::Rules;
@@ -245,9 +245,15 @@ fn lay_list(rules: Rules, head: usize, end: usize, f: usize, list: &mut [i64]) -
     narrow_from(rules, k + 1, f, &mut list[..kept])
 }
 
-// Lays the lists of the fields one behind the other, by the constraints given of their file, and zeros to the end. In lists, where that of each field lies.
-pub(crate) fn lay_lists(rules: Rules, fields: &[usize], scratch: &mut [i64], lists: &mut [Span; 32])
+// Lays the lists of the fields one behind the other, by the constraints given of their file, and zeros to the end; how many numbers they take. In lists, where that of each field lies.
+pub(crate) fn lay_lists(
+    rules: Rules,
+    fields: &[usize],
+    scratch: &mut [i64],
+    lists: &mut [Span; 32],
+) -> usize
     requires { (length fields.now ≤ 33) × FieldsIn rules.file.now fields.now × (sum_n (map (λ d. length (domain d)) (fields_in rules.file.now fields.now)) ≤ length scratch.old) × (lists.old ≡ replicate 32 (span_of 0 0)) }
+    ensures used { result ≡ used_by (lists_by (constraints_in rules.entry.file.now rules.entry.heads.now) (fields_in rules.entry.file.now fields.now)) }
     ensures scratch { scratch.new ≡ packed_lists (lists_by (constraints_in rules.entry.file.now rules.entry.heads.now) (fields_in rules.entry.file.now fields.now)) (length scratch.old) }
     ensures lists { lists.new ≡ list_places (map length (lists_by (constraints_in rules.entry.file.now rules.entry.heads.now) (fields_in rules.entry.file.now fields.now))) }
 {
@@ -259,4 +265,5 @@ pub(crate) fn lay_lists(rules: Rules, fields: &[usize], scratch: &mut [i64], lis
         at += len;
     }
     scratch[at..].fill(0);
+    at
 }

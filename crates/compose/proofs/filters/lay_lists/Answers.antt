@@ -6,7 +6,7 @@ use borrow.Author.Rules.{rules}
 use borrow.Rule.Slice.PartMut.{same_len_mid}
 use lib.ListN.{drop, length, length-set}
 use Rattle.compose.specs.Code.{FieldIn, constraints_in}
-use Rattle.compose.proofs.Laid.{laid_places, laid_room, laid_scratch, laid_turn}
+use Rattle.compose.proofs.Laid.{laid_places, laid_room, laid_scratch, laid_turn, laid_used}
 use Rattle.compose.proofs.Positions.{head_turn_lem}
 use Rattle.compose.proofs.filters.lay_lists.Goals as goal
 
@@ -30,4 +30,8 @@ loop-k-preserved c =
 pub returns : goal.returns
 returns c =
     let l = c.loop-k in
-    record { scratch = laid_scratch c.args.rules.file.now c.args.fields.now (constraints_in c.args.rules.file.now c.args.rules.heads.now) (length c.args.scratch.now) l.scratch l.lists l.at l.k l.invariant.0 (omega arith) c.fill.new.self (c.fill.ensures.after (search rules)); lists = laid_places c.args.rules.file.now c.args.fields.now (constraints_in c.args.rules.file.now c.args.rules.heads.now) (length c.args.scratch.now) l.scratch l.lists l.at l.k l.invariant.0 (omega arith) }
+    record {
+      used = laid_used c.args.rules.file.now c.args.fields.now (constraints_in c.args.rules.file.now c.args.rules.heads.now) (length c.args.scratch.now) l.scratch l.lists l.at l.k l.invariant.0 (omega arith);
+      scratch = laid_scratch c.args.rules.file.now c.args.fields.now (constraints_in c.args.rules.file.now c.args.rules.heads.now) (length c.args.scratch.now) l.scratch l.lists l.at l.k l.invariant.0 (omega arith) c.fill.new.self (c.fill.ensures.after (search rules));
+      lists = laid_places c.args.rules.file.now c.args.fields.now (constraints_in c.args.rules.file.now c.args.rules.heads.now) (length c.args.scratch.now) l.scratch l.lists l.at l.k l.invariant.0 (omega arith);
+    }
