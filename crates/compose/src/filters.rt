@@ -1,56 +1,27 @@
-// The lists of the fields, laid into the lent scratch: each domain, narrowed in place.
+// The lists of the fields, laid into the lent scratch: each domain, narrowed.
 ghost use Rattle.std.specs.Prelude.{◌≡◌, Bool, ℤ, List, true, false, ◌+◌, ◌/◌, ◌≤◌, ◌<◌, suc, pos, get_or, length, take, drop, replicate, MatchOption};
 ghost use mathlib.Core.List.{foldl, map};
 ghost use Rattle.lists.specs.Integers.{elem_z};
 ghost use Rattle.lists.specs.Lists.{concat_map, filter, sum_n, over};
-ghost use Rattle.spec.specs.Code.{as_record, InScale, ps_of};
+ghost use Rattle.spec.specs.Code.{ps_of};
 ghost use Rattle.spec.specs.Domain.{domain};
-ghost use Rattle.spec.specs.Record.{constraint_of, field_by, field_of, record_at, records_of};
+ghost use Rattle.spec.specs.Record.{field_of, record_at, records_of};
 ghost use Rattle.registry.specs.Code.{group_in};
 ghost use Rattle.compose.specs.Maps.{allowed, narrow_by};
-ghost use Rattle.compose.specs.Code.{Answers, constraints_in, fields_in, FieldIn, FieldsIn, is_ascending, list_places, lists_by, packed_lists, span_of, used_by};
+ghost use Rattle.compose.specs.Known.{domain_of};
+ghost use Rattle.compose.specs.Code.{Answers, constraint_at, constraints_in, fields_in, FieldIn, FieldsIn, is_ascending, list_places, lists_by, packed_lists, span_of, used_by};
 
+use crate::domain::Domain;
 use crate::finding::{Ascending, is_ascending};
 use crate::groups::Rules;
 use crate::members::{INDEXED, ROOM, indexed};
 use crate::places::Span;
 use registry::check::meets;
 use registry::sorting::IndexedRun;
-use spec::domains::{domain_len, domain_value, has_p, part};
+use spec::domains::{has_p, part};
 use spec::kinds::Kind;
-use spec::numbers::{Index, Value};
+use spec::numbers::Value;
 use spec::records::{Record, record_at};
-
-// Lays the domain of field h, whose values are the records given.
-pub(crate) fn lay_domain(h: Record, values: &[u8], list: &mut [i64])
-    requires { InScale h.p h.q h.r × (length list.old ≡ length (domain (field_by h.b (as_record h) (records_of values.now)))) }
-    ensures { list.new ≡ domain (field_by h.b (as_record h) (records_of values.now)) }
-{
-    for (i, v) in list.iter_mut().enumerate() {
-        *v = domain_value(h, values, Index(i)).0;
-    }
-}
-
-// Lays those values of the domain of field h that pass the test over the list; how many they are.
-// Out of line: inlined, what the loop goes by lies on the stack.
-#[inline(never)]
-fn lay_passing<F: Fn(Value) -> bool>(h: Record, values: &[u8], list: &mut [i64], passes: F) -> usize
-    requires can { F.IsAlwaysCallable passes }
-    requires room { InScale h.p h.q h.r × (length list.old ≡ length (domain (field_by h.b (as_record h) (records_of values.now)))) }
-    ensures count { (p : ℤ → Bool) → Answers (F.post passes) p → result ≡ length (filter p (domain (field_by h.b (as_record h) (records_of values.now)))) }
-    ensures left { (p : ℤ → Bool) → Answers (F.post passes) p → list.new ≡ over (filter p (domain (field_by h.b (as_record h) (records_of values.now)))) list.old }
-{
-    let mut kept = 0;
-    // By index: a value is written where it is kept, not where it is read.
-    for i in 0..list.len() {
-        let v = domain_value(h, values, Index(i));
-        if passes(v) {
-            list[kept] = v.0;
-            kept += 1;
-        }
-    }
-    kept
-}
 
 // Moves the values that pass the test to the front; how many they are.
 fn compact<F: Fn(Value) -> bool>(list: &mut [i64], passes: F) -> usize
@@ -139,8 +110,8 @@ fn compact_items(list: &mut [i64], run: &[u8]) -> usize
 // Narrows the list of field f by constraint k: keeps the values that meet it, or all where none does; how many are kept. That there is a constraint k is the bound of the call's own index, as in evaluate.
 fn narrow_by(rules: Rules, k: usize, f: usize, list: &mut [i64]) -> usize
     requires { suc k < length rules.heads.now }
-    ensures count { result ≡ length (foldl (narrow_by f) list.old (constraint_of (group_in rules.entry.file.now (get_or rules.entry.heads.now k 0) (get_or rules.entry.heads.now (k + 1) 0)))) }
-    ensures left { list.new ≡ over (foldl (narrow_by f) list.old (constraint_of (group_in rules.entry.file.now (get_or rules.entry.heads.now k 0) (get_or rules.entry.heads.now (k + 1) 0)))) list.old }
+    ensures count { result ≡ length (foldl (narrow_by f) list.old (constraint_at rules.entry.file.now rules.entry.heads.now k)) }
+    ensures left { list.new ≡ over (foldl (narrow_by f) list.old (constraint_at rules.entry.file.now rules.entry.heads.now k)) list.old }
 {
     let file = rules.file;
     let head = rules.heads[k];
@@ -165,7 +136,7 @@ fn narrow_by(rules: Rules, k: usize, f: usize, list: &mut [i64]) -> usize
 fn is_filter(rules: Rules, k: usize, f: usize) -> bool
     requires { suc k < length rules.heads.now }
     ensures field { result ≡ true → (record_at rules.entry.file.now (get_or rules.entry.heads.now k 0)).a ≡ f }
-    ensures others { result ≡ false → (list : List ℤ) → foldl (narrow_by f) list (constraint_of (group_in rules.entry.file.now (get_or rules.entry.heads.now k 0) (get_or rules.entry.heads.now (k + 1) 0))) ≡ list }
+    ensures others { result ≡ false → (list : List ℤ) → foldl (narrow_by f) list (constraint_at rules.entry.file.now rules.entry.heads.now k) ≡ list }
 {
     let h = record_at(rules.file, rules.heads[k]);
     (h.a == f) & matches!(h.kind, Kind::Range | Kind::Oneof | Kind::Bitmask)
@@ -195,34 +166,27 @@ fn narrow_from(rules: Rules, first: usize, f: usize, list: &mut [i64]) -> usize
     len
 }
 
-// Lays the domain of field h, which is field f, narrowed by constraint k, one of its own; how many are left. Where that is a range or a bitmask, only the values that meet it are laid: to lay all first takes as long again.
-fn lay_narrowed(
-    rules: Rules,
-    k: usize,
-    f: usize,
-    h: Record,
-    values: &[u8],
-    list: &mut [i64],
-) -> usize
+// Lays the domain of field f narrowed by constraint k, one of its own; how many values are left. Where that is a range or a bitmask, only the values that meet it are laid: to lay all first takes as long again.
+fn lay_narrowed(rules: Rules, k: usize, f: usize, domain: Domain, list: &mut [i64]) -> usize
     requires constraint { (suc k < length rules.heads.now) × ((record_at rules.file.now (get_or rules.heads.now k 0)).a ≡ f) }
-    requires room { InScale h.p h.q h.r × (length list.old ≡ length (domain (field_by h.b (as_record h) (records_of values.now)))) }
-    ensures count { result ≡ length (foldl (narrow_by f) (domain (field_by h.b (as_record h) (records_of values.now))) (constraint_of (group_in rules.entry.file.now (get_or rules.entry.heads.now k 0) (get_or rules.entry.heads.now (k + 1) 0)))) }
-    ensures front { take result list.new ≡ foldl (narrow_by f) (domain (field_by h.b (as_record h) (records_of values.now))) (constraint_of (group_in rules.entry.file.now (get_or rules.entry.heads.now k 0) (get_or rules.entry.heads.now (k + 1) 0))) }
+    requires room { length list.old ≡ length (domain_of domain) }
+    ensures count { result ≡ length (foldl (narrow_by f) (domain_of domain.entry) (constraint_at rules.entry.file.now rules.entry.heads.now k)) }
+    ensures front { take result list.new ≡ foldl (narrow_by f) (domain_of domain.entry) (constraint_at rules.entry.file.now rules.entry.heads.now k) }
 {
     let c = record_at(rules.file, rules.heads[k]);
     let (kind, p, q) = (c.kind, c.p, c.q);
-    // Two arms that are alike, as in `narrow_by`.
+    // Two arms that are alike, as in `narrow_by`. They own p and q: lent, these would be read again at each value.
     let kept = match kind {
-        Kind::Range => lay_passing(h, values, list, move |v| meets(Kind::Range, p, q, &[], v)),
-        Kind::Bitmask => lay_passing(h, values, list, move |v| meets(Kind::Bitmask, p, q, &[], v)),
+        Kind::Range => domain.lay_passing(list, move |v| meets(Kind::Range, p, q, &[], v)),
+        Kind::Bitmask => domain.lay_passing(list, move |v| meets(Kind::Bitmask, p, q, &[], v)),
         _ => {
-            lay_domain(h, values, list);
+            domain.lay(list);
             return narrow_by(rules, k, f, list);
         }
     };
     let none = kept == 0;
     if none {
-        lay_domain(h, values, list);
+        domain.lay(list);
         return list.len();
     }
     kept
@@ -234,14 +198,16 @@ fn lay_list(rules: Rules, head: usize, end: usize, f: usize, list: &mut [i64]) -
     ensures count { result ≡ length (concat_map (λ d. allowed (constraints_in rules.entry.file.now rules.entry.heads.now) f d) (field_of (group_in rules.entry.file.now head end))) }
     ensures front { take result list.new ≡ concat_map (λ d. allowed (constraints_in rules.entry.file.now rules.entry.heads.now) f d) (field_of (group_in rules.entry.file.now head end)) }
 {
-    let h = record_at(rules.file, head);
-    let values = part(rules.file, head + 1, end);
-    let len = domain_len(h, values.len() / 32);
+    let domain = Domain {
+        head: record_at(rules.file, head),
+        values: part(rules.file, head + 1, end),
+    };
+    let len = domain.len();
     let Some(k) = first_filter(rules, f) else {
-        lay_domain(h, values, &mut list[..len]);
+        domain.lay(&mut list[..len]);
         return len;
     };
-    let kept = lay_narrowed(rules, k, f, h, values, &mut list[..len]);
+    let kept = lay_narrowed(rules, k, f, domain, &mut list[..len]);
     narrow_from(rules, k + 1, f, &mut list[..kept])
 }
 

@@ -2,6 +2,7 @@
 #![tactic(auto)]
 
 mod childless;
+mod domain;
 pub mod filters;
 mod finding;
 pub mod force;

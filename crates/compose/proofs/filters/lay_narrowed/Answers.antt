@@ -2,24 +2,25 @@
 use Rattle.std.proofs.Common.{◌∙◌, ◌≡◌, ap, sym, refl, rules, [], List, ℤ, ◌+◌, ◌-◌, suc, drop, get_or, length, take}
 use mathlib.Core.List.{foldl}
 use lib.Seq.{take-length}
-use Rattle.spec.specs.Code.{as_kind, as_record}
-use Rattle.spec.specs.Domain.{domain}
+use Rattle.spec.specs.Code.{as_kind}
 use Rattle.spec.specs.Kind.{bitmask, constraint, range}
-use Rattle.spec.specs.Record.{Record, constraint_of, field_by, records_of}
-use Rattle.registry.specs.Code.{group_in, passes, test_in}
+use Rattle.spec.specs.Record.{Record, records_of}
+use Rattle.registry.specs.Code.{passes, test_in}
+use Rattle.compose.specs.Code.{constraint_at}
+use Rattle.compose.specs.Known.{domain_of}
 use Rattle.compose.specs.Maps.{narrow_by}
 use Rattle.compose.proofs.Narrowing.{Met, met-none, met-some, narrowed_as}
 use Rattle.compose.proofs.filters.lay_narrowed.Goals.{Joined-kind, in-Bitmask, in-Range}
 use Rattle.compose.proofs.filters.lay_narrowed.Goals as goal
 
-met : (c : Joined-kind) → Met (domain (field_by c.args.h.b (as_record c.args.h) (records_of c.args.values.now))) c.args.list.now c.match-kind.list c.match-kind.kept (foldl (narrow_by c.args.f) (domain (field_by c.args.h.b (as_record c.args.h) (records_of c.args.values.now))) (constraint_of (group_in c.args.rules.file.now (get_or c.args.rules.heads.now c.args.k 0) (get_or c.args.rules.heads.now (c.args.k + 1) 0))))
+met : (c : Joined-kind) → Met (domain_of c.args.domain) c.args.list.now c.match-kind.list c.match-kind.kept (foldl (narrow_by c.args.f) (domain_of c.args.domain) (constraint_at c.args.rules.file.now c.args.rules.heads.now c.args.k))
 met c =
     let h = c.record_at-c.result in
     let file = c.args.rules.file.now in
     let head = get_or c.args.rules.heads.now c.args.k 0 in
     let end = get_or c.args.rules.heads.now (c.args.k + 1) 0 in
     let its = take (end - suc head) (drop (suc head) (records_of file)) in
-    let src : List ℤ = domain (field_by c.args.h.b (as_record c.args.h) (records_of c.args.values.now)) in
+    let src : List ℤ = domain_of c.args.domain in
     let own : h.a ≡ c.args.f = ap (λ (r : Record). r.a) c.record_at-c.ensures.read ∙ c.requires.constraint.1 in
     elim c.match-kind.branch [
       | in-Range u ↦ let p = passes (test_in (constraint range) h.p h.q []) in record {
@@ -39,7 +40,7 @@ met c =
 pub returns-then-none : goal.returns-then-none
 returns-then-none c =
     let m = met (goal.at.returns-then-none c).Joined-kind in
-    let e = c.lay_domain-then-none.ensures ∙ sym (met-none _ _ _ _ _ m c.if-none.true) in
+    let e = c.lay-then-none.ensures ∙ sym (met-none _ _ _ _ _ m c.if-none.true) in
     record { count = ap length e; front = take-length _ ∙ e }
 
 pub returns : goal.returns
