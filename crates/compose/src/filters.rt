@@ -21,7 +21,7 @@ use registry::sorting::IndexedRun;
 use spec::domains::{has_p, part};
 use spec::kinds::Kind;
 use spec::numbers::Value;
-use spec::records::{Record, record_at};
+use spec::records::record_at;
 
 // Moves the values that pass the test to the front; how many they are.
 fn compact<F: Fn(Value) -> bool>(list: &mut [i64], passes: F) -> usize
