@@ -1,7 +1,7 @@
 -- Lists of fields, laid one behind the other.
 use mathlib.Core.List.{List, [], ◌++◌, ◌∷◌, append-nil, map}
 use mathlib.Core.Path.{◌∙◌, ◌≡◌, ap, ap₂, refl, subst, sym}
-use Prim.Native.Nat.{◌+◌, ◌-◌, ◌<◌, ◌≤◌, suc, ℕ}
+use Prim.Native.Nat.{◌+◌, ◌-◌, ◌/◌, ◌<◌, ◌≤◌, suc, ℕ}
 use native.Mathlib.Nat.{add-zero, zero-add}
 use native.Mathlib.Omega.{arith}
 use lib.IntN.{pos, ℤ}
@@ -9,14 +9,14 @@ use lib.ListN.{drop, drop_of_length-le, get_or, length, length-append, length-dr
 use lib.Seq.{append_snoc, length-take-le, set_at, take-append-add, take-append-le}
 use Rattle.lists.specs.Lists.{concat_map, map_from, sum_n}
 use Rattle.lists.proofs.Lists.{concat_map_append, map_append}
-use Rattle.spec.specs.Code.{as_record, lengths}
+use Rattle.spec.specs.Code.{InScale, as_record, domain_length, lengths}
 use Rattle.spec.specs.Domain.{domain}
 use Rattle.spec.specs.Kind.{Kind, kind_of}
 use Rattle.spec.specs.Record.{Group, Record, field_by, field_in, field_of, record_at, records_of}
 use Rattle.spec.specs.Spec.{ConstraintSpec, FieldSpec}
 use Rattle.spec.specs.declared.records.Record as code
-use Rattle.spec.proofs.Fields.{kind_of_lem}
-use Rattle.spec.proofs.Shapes.{field_kind}
+use Rattle.spec.proofs.Fields.{kind_of_lem, length_records}
+use Rattle.spec.proofs.Shapes.{field_kind, length-domain}
 use Rattle.registry.specs.Code.{group_in}
 use Rattle.compose.specs.Maps.{allowed}
 use Rattle.compose.specs.Code.{FieldIn, fields_in, list_places, lists_by, packed_lists, span_of, spans_from, used_by}
@@ -33,6 +33,9 @@ pub field_group : (file : List ℕ) (head end : ℕ) → FieldIn file head end �
 field_group file head end is = ap (λ (k : Kind). field_in k (record_at file head) (take (end - suc head) (drop (suc head) (records_of file)))) (kind_of_lem file head ∙ ap kind_of is.field_is ∙ field_kind)
 
 -- read as h, with the bytes of its values
+pub domain_long : (h : code.Record) (values : List ℕ) → domain_length (as_record h) (length values / 32) ≡ length (domain (field_by h.b (as_record h) (records_of values)))
+domain_long h values = ap (domain_length (as_record h)) (sym (length_records values)) ∙ length-domain h.b (as_record h) (records_of values)
+
 module _ (h : code.Record) (file values : List ℕ) (head end : ℕ) (is : FieldIn file head end) (e : as_record h ≡ record_at file head) (ms : records_of values ≡ take (end - suc head) (drop (suc head) (records_of file))) where
   abbrev field_here : FieldSpec
   field_here = field_by h.b (as_record h) (records_of values)
@@ -40,11 +43,17 @@ module _ (h : code.Record) (file values : List ℕ) (head end : ℕ) (is : Field
   pub field_here_lem : field_of (group_in file head end) ≡ field_here ∷ []
   field_here_lem = field_group file head end is ∙ ap₂ (λ (r : Record) (l : List Record). field_by r.b r l ∷ []) (sym e) (sym ms)
 
+  pub field_length : domain_length (as_record h) (length values / 32) ≡ length (domain field_here)
+  field_length = domain_long h values
+
   pub field_room : (n : ℕ) → sum_n (lengths (field_of (group_in file head end))) ≤ n → length (domain field_here) ≤ n
   field_room n r = let q = subst (λ (ds : List FieldSpec). sum_n (lengths ds) ≤ n) field_here_lem r in omega arith
 
   pub field_allowed : (cs : List ConstraintSpec) (f : ℕ) → allowed cs f field_here ≡ concat_map (λ d. allowed cs f d) (field_of (group_in file head end))
   field_allowed cs f = sym (ap (λ (ds : List FieldSpec). concat_map (λ d. allowed cs f d) ds) field_here_lem ∙ append-nil (allowed cs f field_here))
+
+pub field_scaled : (h : code.Record) (file : List ℕ) (head end : ℕ) → FieldIn file head end → as_record h ≡ record_at file head → InScale h.p h.q h.r
+field_scaled h file head end is e = subst (λ (r : Record). InScale r.p r.q r.r) (sym e) is.scaled
 
 -- What stands in front of a part stands in front of the whole.
 pub front_part : (r : ℕ) (new part rest : List ℤ) → r ≡ length new → take r part ≡ new → take r (part ++ rest) ≡ new
