@@ -355,9 +355,58 @@ fn two_maps(m: &mut Maker) {
     }
 }
 
+/// A file of few short fields and lists of many members, of which few are distinct.
+fn repeats(m: &mut Maker) {
+    let mut rows = m.up_to(200);
+    for _ in 0..2 {
+        let length = m.up_to(rows);
+        rows /= length;
+        m.field(length);
+    }
+    for _ in 0..1 + m.random.below(2) {
+        let many = m.up_to(m.room() / 2);
+        let distinct = m.up_to(many);
+        let (kind, member) = REPEATED[m.random.below(REPEATED.len())];
+        let v = m.value(0);
+        m.put(kind, 0, 1, v, 0);
+        if kind != CROSS {
+            m.records.last_mut().expect("a head").b = 0;
+        }
+        if kind == ONEOF {
+            m.records.last_mut().expect("a head").p = 0;
+        }
+        let members: Vec<Record> = (0..distinct)
+            .map(|_| {
+                let (f, v, w) = (m.random.below(2) as u8, m.value(0), m.value(1));
+                match member {
+                    DISABLE => record(DISABLE, f, 0, 0, 0, 0),
+                    ASSIGN => record(ASSIGN, f, 0, v, 0, 0),
+                    ITEM => record(ITEM, 0, 0, v, 0, 0),
+                    KEY => record(KEY, 0, 0, v, 0, 0),
+                    _ => record(PAIR, 0, 0, v, w, 0),
+                }
+            })
+            .collect();
+        for _ in 0..many {
+            let k = m.random.below(distinct);
+            m.records.push(members[k]);
+        }
+        m.what += &format!("{many} of kind {member}, {distinct} distinct; ");
+    }
+}
+
+/// Lists of which a member may stand many times.
+const REPEATED: [(u8, u8); 5] = [
+    (ONEOF, ITEM),
+    (CROSS, PAIR),
+    (CROSS, KEY),
+    (ENABLE_MASK, DISABLE),
+    (ENABLE_SET, ASSIGN),
+];
+
 type Make = fn(&mut Maker);
 
-const KINDS: [(&str, Make); 10] = [
+const KINDS: [(&str, Make); 11] = [
     ("any", any),
     ("one map", one_map),
     ("under a field", under_field),
@@ -368,6 +417,7 @@ const KINDS: [(&str, Make); 10] = [
     ("few rows", few),
     ("many fields", many),
     ("oneofs", oneofs),
+    ("repeats", repeats),
 ];
 
 /// A file, what it has, and how many rows there are without constraints.
@@ -407,7 +457,7 @@ pub fn search(seconds: f64, seed: u64) {
     let mut next = seed << 32;
     while start.elapsed().as_secs_f64() < seconds {
         next += 1;
-        let kind = next as usize % KINDS.len();
+        let kind = match std::env::var("KIND") { Ok(k) => k.parse::<usize>().unwrap(), _ => next as usize % KINDS.len() };
         let (bytes, what, rows) = file(KINDS[kind].1, next);
         if reading::judge(&bytes).is_err() {
             continue;
@@ -452,7 +502,7 @@ pub fn search(seconds: f64, seed: u64) {
                 lowest[kind][side] = lowest[kind][side].min(ratio);
                 slower[kind][side] += usize::from(ratio < 1.0);
             }
-            if ratios[1] < 1.0 {
+            if ratios[1] < 1.0 || (std::env::var("ALL").is_ok() && ratios[0] < 1.0) {
                 let [plain, read, judged] = ratios;
                 println!(
                     "{}: {plain:.2}, with its reading {read:.2}, judging too {judged:.2}, {:.0} us, {word}, {} records, {} verdicts: {what}",

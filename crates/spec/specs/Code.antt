@@ -1,7 +1,6 @@
 -- What the code's types stand for, and what it computes on the way where no definition of the requirement says it.
-use Rattle.std.specs.Prelude.{Bool, cond, true, false, ◌&&◌, ◌||◌, List, ◌++◌, map, ◌≡◌, ℕ, zero, suc, ◌+◌, ◌-◌, ◌*◌, ◌/◌, ◌^◌, ◌≤◌, ◌<◌, eqb, leb, ltb, ℤ, pos, nat_abs, length, take, drop, replicate, Result, Ok, Err, IsErrAnd, MatchResult}
+use Rattle.std.specs.Prelude.{Bool, cond, true, false, List, ◌++◌, map, ◌≡◌, ℕ, zero, suc, ◌+◌, ◌-◌, ◌*◌, ◌/◌, ◌^◌, ◌≤◌, ◌<◌, eqb, leb, ltb, ℤ, pos, nat_abs, length, take, drop, replicate, Result, Ok, Err, IsErrAnd, MatchResult, ◌⊎◌}
 use Rattle.std.proofs.Math.Option.{Option, none, some}
-use Rattle.lists.specs.Integers.{eq_z}
 use Rattle.lists.specs.Lists.{any, over}
 use Rattle.spec.specs.Domain.{domain, first_multiple, how_many, step_of}
 use Rattle.spec.specs.Refusal.{Answer, refused, accepted, Context, Refused, ◌▷◌, on_scale, negative, members_fault, groups_fault, file_fault, unless_refused}
@@ -21,6 +20,8 @@ use Rattle.spec.specs.declared.kinds.Section.{Section}
 use Rattle.spec.specs.declared.kinds.Section.TheVariants as sections
 use Rattle.spec.specs.declared.kinds.Use as uses
 use Rattle.spec.specs.declared.kinds.Use.TheVariants as uses'
+use Rattle.spec.specs.declared.plain.Members as members
+use Rattle.spec.specs.declared.plain.Members.TheVariants as members'
 use Rattle.spec.specs.declared.records.Record as code'
 use Rattle.spec.specs.declared.refusal.Fault.{Fault}
 use Rattle.spec.specs.declared.refusal.Fault.TheVariants as faults
@@ -223,9 +224,32 @@ abbrev pub as_fault : Result (Unit {0}) code⁵.Refusal → Option Refused
 as_fault (Ok x) = none
 as_fault (Err r) = some (as_refused r)
 
--- A member with the first eight bytes given that has no fault; only pairs use q, whose first bytes are 4.
-abbrev pub is_plain : ℕ → Record → Bool
-is_plain lead m = eqb (lead_of m) lead && (eqb lead 4 || eq_z m.q (pos 0)) && eq_z m.r (pos 0) && on_scale m.p && on_scale m.q
+-- Members of which a list may have many, without a fault: the first eight bytes are the kind's number, a, and zeros.
+pub record Leads (code a : ℕ) (m : Record) : Type 0 where
+  pub code_is : m.code ≡ code
+  pub a_is : m.a ≡ a
+  pub b_is : m.b ≡ 0
+  pub padding_is : m.padding ≡ 0
+
+abbrev pub InList : members.Members → Record → Type 0
+InList (members'.Values f) m = Leads 2 f m × (m.q ≡ pos 0)
+InList members'.Items m = Leads 3 0 m × (m.q ≡ pos 0)
+InList members'.Entries m = (Leads 4 0 m × (on_scale m.q ≡ true)) ⊎ (Leads 5 0 m × (m.q ≡ pos 0))
+InList (members'.Disables n) m = Leads 6 m.a m × (m.a < n) × (m.p ≡ pos 0) × (m.q ≡ pos 0)
+InList (members'.Assigns n) m = Leads 7 m.a m × (m.a < n) × (m.q ≡ pos 0)
+
+pub record IsPlain (list : members.Members) (m : Record) : Type 0 where
+  pub in_list : InList list m
+  pub p_in : on_scale m.p ≡ true
+  pub r_is : m.r ≡ pos 0
+
+-- The numbers of fields fit a byte.
+abbrev pub Fits : members.Members → Type 0
+Fits (members'.Values f) = f < 256
+Fits members'.Items = Unit {0}
+Fits members'.Entries = Unit {0}
+Fits (members'.Disables n) = n ≤ 256
+Fits (members'.Assigns n) = n ≤ 256
 
 -- What a turn leaves.
 abbrev pub after_turn : List ℕ → ℕ → Result scan.State code⁵.Refusal → Option Refused

@@ -10,7 +10,7 @@ use crate::context::Context;
 use crate::domains::part;
 use crate::faults::{belongs_to, judge_head, judge_list, judge_member, misfiled_fault};
 use crate::kinds::{List, Section, row_of};
-use crate::plain::{ITEM, PAIR, VALUE, plain_end};
+use crate::plain::{Members, plain_end};
 use crate::records::{Record, record_at};
 use crate::refusal::{Fault, Refusal, refuse_at};
 use crate::validate::HEADS;
@@ -107,11 +107,14 @@ fn pass_plain(file: &[u8], state: State, i: usize) -> usize
     ensures members { (j : ℕ) → i ≤ j → j < result → is_member (record_at file.now j).kind ≡ true }
 {
     let head = record_at(file, state.head);
+    let fields = state.context.fields;
     match row_of(head.kind, head.b).list {
-        List::Values => plain_end(file, i, VALUE + head.a as u64 * 0x100),
-        List::Items => plain_end(file, i, ITEM),
-        List::Entries => plain_end(file, i, PAIR),
-        List::Nothing | List::Disables | List::Assigns | List::Axes => i,
+        List::Values => plain_end(file, i, Members::Values(head.a)),
+        List::Items => plain_end(file, i, Members::Items),
+        List::Entries => plain_end(file, i, Members::Entries),
+        List::Disables => plain_end(file, i, Members::Disables(fields)),
+        List::Assigns => plain_end(file, i, Members::Assigns(fields)),
+        List::Nothing | List::Axes => i,
     }
 }
 
