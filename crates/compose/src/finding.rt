@@ -9,7 +9,6 @@ ghost use Rattle.registry.specs.Check.{is_pair};
 ghost use Rattle.compose.specs.Walk.{least};
 ghost use Rattle.compose.specs.Code.{is_ascending, marked, Answers};
 
-use crate::members::is_pair_at;
 use registry::sorting::IndexedRun;
 use spec::numbers::{Index, Value};
 use spec::records::{p_at, q_at};
@@ -141,7 +140,7 @@ impl<'a> Ascending<'a> {
             }
             let q = q_at(members.run, r);
             if q == w.0 {
-                if is_pair_at(members, k, v, w) {
+                if members.pairs_from(k, v, w) {
                     return Index(i);
                 }
                 i += 1;

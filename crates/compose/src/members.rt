@@ -109,7 +109,7 @@ impl<'a> Members for IndexedRun<'a> {
 
     fn has_pair(self, start: usize, end: usize, v: Value, w: Value) -> bool {
         let k = self.lower_between(v, w, start, end);
-        is_pair_at(self, k, v, w)
+        self.pairs_from(k, v, w)
     }
 
     fn child_at(self, k: usize, v: Value) -> Option<Value> {
@@ -148,28 +148,6 @@ fn span_of(members: IndexedRun, v: Value) -> Range<usize>
         None => members.places.len(),
     };
     low..high
-}
-
-// v and w are a pair; place k is the first that is not below them.
-pub(crate) fn is_pair_at(members: IndexedRun, k: usize, v: Value, w: Value) -> bool
-    requires { Bracket members.run.now members.places.now v.0 w.0 k k }
-    ensures { result ≡ any (is_pair v.0 w.0) (map entry_of (records_of members.entry.run.now)) }
-{
-    if members.places.len() <= k {
-        return false;
-    }
-    let r = members.places[k];
-    if p_at(members.run, r) != v.0 {
-        return false;
-    }
-    if q_at(members.run, r) != w.0 {
-        return false;
-    }
-    match kind_at(members.run, r) {
-        Kind::Pair => true,
-        // A key without a child has 0 there.
-        _ => has_pair(members.run, v, w),
-    }
 }
 
 // The key at place k, unless it is that of the place before it.

@@ -146,6 +146,36 @@ module _ (run places : List ℕ) (x : Indexed run places) (v w : ℤ) (k : ℕ) 
   pair_before : (y : ℤ) → lt_z y w ≡ false → (m : ℕ) → m < k → pairs v y (at m) ≡ false
   pair_before y g m l = pairs_no v y (at m) (λ e f. true≢false (sym (h.below m l) ∙ ap₂ (λ (a b : ℤ). under a b v w) (sym (eq_z_eq v (at m).p e)) (sym (eq_z_eq y (at m).q f)) ∙ under_none v y w g))
 
+  -- v and w are a pair where they are one at a place.
+  pub pair_here : (j : ℕ) → j < length places → is_pair v w (entry_of (at j)) ≡ true → true ≡ any (is_pair v w) (map entry_of (records_of run))
+  pair_here j l e = sym (any_pair v w (records_of run) ∙ seen (pairs v w) j l (pairs_entry v w (at j) ∙ e))
+
+  -- Place j has another p or q, or there is none.
+  abbrev pub Behind : ℕ → Type 0
+  Behind j = (length places ≤ j) ⊎ ((j < length places) × ((eq_z v (at j).p && eq_z w (at j).q) ≡ false))
+
+  -- They are none where they are none at the places from k to before such a place.
+  pub pair_behind : (j : ℕ) → k ≤ j → ((m : ℕ) → k ≤ m → m < j → is_pair v w (entry_of (at m)) ≡ false) → Behind j → false ≡ any (is_pair v w) (map entry_of (records_of run))
+  pair_behind j f none behind = sym (any_pair v w (records_of run) ∙ unseen (pairs v w) (λ m l. go m l (ltb m k) refl (ltb m j) refl))
+    where
+      later : Behind j → (m : ℕ) → m < length places → j ≤ m → eq_z v (at m).p ≡ true → eq_z w (at m).q ≡ true → (t : Bool) → ltb j m ≡ t → ⊥
+      later (inl n) m l g a b t e = omega arith
+      later (inr n) m l g a b true t =
+          let r = ap₂ (λ (y z : ℤ). under y z (at j).p (at j).q) (eq_z_eq v (at m).p a) (eq_z_eq w (at m).q b) ∙ x.sorted.rising j m (yes_lt j m t) l in
+          let u = h.rest j f n.0 in
+          let p : (at j).p ≡ v = under_between (at j).p (at j).q v w w u r in
+          let q : (at j).q ≡ w = under_antisym (at j).p (at j).q v w u r in
+          true≢false (sym (and-join (ap (eq_z v) p ∙ eq_z-refl v) (ap (eq_z w) q ∙ eq_z-refl w)) ∙ n.1)
+      later (inr n) m l g a b false t =
+          let c = no_ge j m t in
+          let i : m ≡ j = omega arith in
+          true≢false (sym (subst (λ (z : ℕ). (eq_z v (at z).p && eq_z w (at z).q) ≡ true) i (and-join a b)) ∙ n.1)
+
+      go : (m : ℕ) → m < length places → (t : Bool) → ltb m k ≡ t → (s : Bool) → ltb m j ≡ s → pairs v w (at m) ≡ false
+      go m l true t s u = pair_before w (lt_z_irrefl w) m (yes_lt m k t)
+      go m l false t true u = pairs_entry v w (at m) ∙ none m (no_ge m k t) (yes_lt m j u)
+      go m l false t false u = pairs_no v w (at m) (λ a b. later behind m l (no_ge m j u) a b (ltb j m) refl)
+
   -- Place k has another p, or there is none: v is paired with no value from w on.
   pub pair_past : Past → (y : ℤ) → lt_z y w ≡ false → any (is_pair v y) (map entry_of (records_of run)) ≡ false
   pair_past g y n = any_pair v y (records_of run) ∙ unseen (pairs v y) (λ m l. go m l (ltb m k) refl)
@@ -157,20 +187,6 @@ module _ (run places : List ℕ) (x : Indexed run places) (v w : ℤ) (k : ℕ) 
   module _ (l : k < length places) (e : eq_z (at k).p v ≡ true) where
     key_at_lem : any is_it (records_of run) ≡ true
     key_at_lem = seen is_it k l (eq_z-sym v (at k).p ∙ e)
-
-    pub cross_other : eq_z (at k).q w ≡ false → false ≡ cross_allows (map entry_of (records_of run)) v w
-    cross_other f = sym (cross_is ∙ ap₂ (λ (a b : Bool). not a || b) key_at_lem (unseen (pairs v w) (λ m g. go m g (ltb m k) refl)))
-      where
-        later : (m : ℕ) → m < length places → k ≤ m → eq_z v (at m).p ≡ true → eq_z w (at m).q ≡ true → (t : Bool) → ltb k m ≡ t → ⊥
-        later m g n a b true t =
-            let r = ap₂ (λ (y z : ℤ). under y z (at k).p (at k).q) (eq_z_eq v (at m).p a) (eq_z_eq w (at m).q b) ∙ x.sorted.rising k m (yes_lt k m t) g in
-            let i : (at k).q ≡ w = under_antisym (at k).p (at k).q v w (h.rest k (omega arith) l) r in
-            true≢false (sym (ap (λ (z : ℤ). eq_z z w) i ∙ eq_z-refl w) ∙ f)
-        later m g n a b false t = let c = no_ge k m t in let i : m ≡ k = omega arith in true≢false (sym (eq_z-sym (at m).q w ∙ b) ∙ subst (λ (z : ℕ). eq_z (at z).q w ≡ false) (sym i) f)
-
-        go : (m : ℕ) → m < length places → (t : Bool) → ltb m k ≡ t → pairs v w (at m) ≡ false
-        go m g true t = pair_before w (lt_z_irrefl w) m (yes_lt m k t)
-        go m g false t = pairs_no v w (at m) (λ a b. later m g (no_ge m k t) a b (ltb k m) refl)
 
     -- v is paired with no value from w on that is below the q at place k.
     pub pair_between : (y : ℤ) → lt_z y w ≡ false → lt_z y (at k).q ≡ true → any (is_pair v y) (map entry_of (records_of run)) ≡ false
@@ -190,17 +206,9 @@ module _ (run places : List ℕ) (x : Indexed run places) (v w : ℤ) (k : ℕ) 
         go m g true t = pair_before y n m (yes_lt m k t)
         go m g false t = pairs_no v y (at m) (λ a b. later m g (no_ge m k t) a b (ltb k m) refl)
 
-    -- The q at place k is w: v and w are a pair where the record there is one.
-    pub pair_same : eq_z (at k).q w ≡ true → (c : Bool) → c ≡ eqb (at k).code 4 → (c || any (is_pair v w) (map entry_of (records_of run))) ≡ any (is_pair v w) (map entry_of (records_of run))
-    pair_same f false d = refl
-    pair_same f true d = sym (any_pair v w (records_of run) ∙ seen (pairs v w) k l (and-join (and-join (sym d) (eq_z-sym v (at k).p ∙ e)) (eq_z-sym w (at k).q ∙ f)))
-
     -- A key is let through with those that it is paired with.
     pub cross_key : any (is_pair v w) (map entry_of (records_of run)) ≡ cross_allows (map entry_of (records_of run)) v w
     cross_key = sym (ap (λ (a : Bool). not a || any (is_pair v w) (map entry_of (records_of run))) (any_key v (records_of run) ∙ any-map (eq_z v) (λ (r : Record). r.p) (records_of run) ∙ key_at_lem))
-
-    pub cross_found : is_pair v w (entry_of (at k)) ≡ true → true ≡ cross_allows (map entry_of (records_of run)) v w
-    cross_found p = sym (any_pair v w (records_of run) ∙ seen (pairs v w) k l (pairs_entry v w (at k) ∙ p)) ∙ cross_key
 
   module _ (g : Past) where
     pub cross_first : k ≡ 0 → true ≡ cross_allows (map entry_of (records_of run)) v w

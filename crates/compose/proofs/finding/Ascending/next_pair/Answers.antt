@@ -9,7 +9,7 @@ use Rattle.registry.specs.Index.{Bracket, placed}
 use Rattle.compose.specs.Walk.{least}
 use Rattle.compose.proofs.Ascending.{not_below, paired, paired_jump, paired_none}
 use Rattle.compose.proofs.Turns.{least_more, least-stop}
-use Rattle.compose.proofs.finding.Ascending.next_pair.Goals.{After-is_pair_at, After-lower-k, After-reach-i}
+use Rattle.compose.proofs.finding.Ascending.next_pair.Goals.{After-pairs_from, After-lower-k, After-reach-i}
 use Rattle.compose.proofs.finding.Ascending.next_pair.Goals as goal
 
 bracket : (c : After-lower-k) → Bracket c.args.members.run.now c.args.members.places.now c.args.v.0 (get_or c.args.self.list.now c.loop-i.i (pos 0)) c.lower-k.result c.lower-k.result
@@ -28,18 +28,18 @@ returns-then-p_at-v c =
     let p : eq_z c.args.v.0 (placed m.run.now m.places.now c.lower-k.result).p ≡ false = search rules in
     paired_none c.args.self.list.now c.args.self.ascends m.run.now m.places.now m.indexed c.args.v.0 c.loop-i.i c.loop-i-test.true c.lower-k.result (bracket (goal.at.returns-then-p_at-v c).After-lower-k) (inr (c.if-members-k.false, p)) ∙ c.loop-i.invariant.1
 
-turn : (c : After-is_pair_at) → c.is_pair_at.result ≡ paired c.args.self.list.now c.args.members.run.now c.args.v.0 c.loop-i.i
-turn c = c.is_pair_at.ensures ∙ ap (λ (z : ℤ). any (is_pair c.args.v.0 z) (map entry_of (records_of c.args.members.run.now))) (to_z-of_z w64 (get_or c.args.self.list.now c.loop-i.i (pos 0)) (search rules))
+turn : (c : After-pairs_from) → c.pairs_from.result ≡ paired c.args.self.list.now c.args.members.run.now c.args.v.0 c.loop-i.i
+turn c = c.pairs_from.ensures ∙ ap (λ (z : ℤ). any (is_pair c.args.v.0 z) (map entry_of (records_of c.args.members.run.now))) (to_z-of_z w64 (get_or c.args.self.list.now c.loop-i.i (pos 0)) (search rules))
 
-pub returns-then-is_pair_at : goal.returns-then-is_pair_at
-returns-then-is_pair_at c =
+pub returns-then-pairs_from : goal.returns-then-pairs_from
+returns-then-pairs_from c =
     let l = c.loop-i in
-    sym (least-stop (paired c.args.self.list.now c.args.members.run.now c.args.v.0) (length c.args.self.list.now) l.i c.loop-i-test.true (sym (turn (goal.at.returns-then-is_pair_at c).After-is_pair_at) ∙ c.if-is_pair_at.true)) ∙ l.invariant.1
+    sym (least-stop (paired c.args.self.list.now c.args.members.run.now c.args.v.0) (length c.args.self.list.now) l.i c.loop-i-test.true (sym (turn (goal.at.returns-then-pairs_from c).After-pairs_from) ∙ c.if-pairs_from.true)) ∙ l.invariant.1
 
 pub loop-i-preserved-then-q-w : goal.loop-i-preserved-then-q-w
 loop-i-preserved-then-q-w c =
     let l = c.loop-i in
-    (omega arith, rw (add-one l.i) (sym (least_more (paired c.args.self.list.now c.args.members.run.now c.args.v.0) (length c.args.self.list.now) l.i c.loop-i-test.true (sym (turn (goal.at.loop-i-preserved-then-q-w c).After-is_pair_at) ∙ c.if-is_pair_at.false)) ∙ l.invariant.1))
+    (omega arith, rw (add-one l.i) (sym (least_more (paired c.args.self.list.now c.args.members.run.now c.args.v.0) (length c.args.self.list.now) l.i c.loop-i-test.true (sym (turn (goal.at.loop-i-preserved-then-q-w c).After-pairs_from) ∙ c.if-pairs_from.false)) ∙ l.invariant.1))
 
 further : (c : After-reach-i) → Bracket c.args.members.run.now c.args.members.places.now c.args.v.0 (get_or c.args.self.list.now c.loop-i.i (pos 0)) c.lower-k.result c.lower-k.result → (c.loop-i.i < c.reach-i.result.0) × (c.reach-i.result.0 ≤ length c.args.self.list.now)
     × (least (paired c.args.self.list.now c.args.members.run.now c.args.v.0) c.loop-i.i (length c.args.self.list.now - c.loop-i.i) ≡ least (paired c.args.self.list.now c.args.members.run.now c.args.v.0) c.reach-i.result.0 (length c.args.self.list.now - c.reach-i.result.0))
