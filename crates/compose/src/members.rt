@@ -11,9 +11,8 @@ ghost use Rattle.compose.specs.Code.{between, pairs_at};
 use registry::check::has_pair;
 use registry::sorting::{IndexedRun, index_run};
 use spec::domains::has_p;
-use spec::kinds::Kind;
 use spec::numbers::Value;
-use spec::records::{kind_at, p_at, q_at};
+use spec::records::{is_pair, p_at, q_at};
 use std::ops::Range;
 
 pub(crate) trait Members: Copy {
@@ -47,15 +46,10 @@ fn child_of(run: &[u8], i: usize, v: Value) -> Option<Value>
     requires { i < length run.now / 32 }
     ensures { MatchOption result ((w : ℤ) → pairs_at v.0 w (record_at run.now i) ≡ false) (λ q. (w : ℤ) → pairs_at v.0 w (record_at run.now i) ≡ eq_z w q.0) }
 {
-    match kind_at(run, i) {
-        Kind::Pair => {
-            if p_at(run, i) == v.0 {
-                Some(Value(q_at(run, i)))
-            } else {
-                None
-            }
-        }
-        _ => None,
+    if is_pair(run, i) && p_at(run, i) == v.0 {
+        Some(Value(q_at(run, i)))
+    } else {
+        None
     }
 }
 

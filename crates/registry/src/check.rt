@@ -13,7 +13,7 @@ use crate::sorting::IndexedRun;
 use spec::domains::{has_p, part};
 use spec::kinds::Kind;
 use spec::numbers::Value;
-use spec::records::{a_at, b_at, kind_at, p_at, q_at};
+use spec::records::{a_at, b_at, is_pair, kind_at, p_at, q_at};
 
 // The mark of a head whose members are indexed is this and the number of the record that they end before. No place reaches it. A number and not an enum, so that the places lie one behind the other, as the index of a run has them.
 pub const MARK: usize = 4096;
@@ -49,22 +49,38 @@ pub(crate) fn is_pair_at(run: &[u8], i: usize, v: Value, w: Value) -> bool
     requires { i < length run.now / 32 }
     ensures { result ≡ is_pair v.0 w.0 (entry_of (record_at run.now i)) }
 {
-    match kind_at(run, i) {
-        Kind::Pair => (p_at(run, i) == v.0) & (q_at(run, i) == w.0),
-        _ => false,
-    }
+    is_pair(run, i) & (p_at(run, i) == v.0) & (q_at(run, i) == w.0)
 }
 
-// A pair of the run lets parent value v have child value w.
-pub fn has_pair(run: &[u8], v: Value, w: Value) -> bool
-    ensures { result ≡ any (is_pair v.0 w.0) (map entry_of (records_of run.now)) }
+// A pair of the run from record `from` on lets parent value v have child value w.
+fn has_pair_from(run: &[u8], from: usize, v: Value, w: Value) -> bool
+    requires { from ≤ length run.now / 32 }
+    ensures { result ≡ any (is_pair v.0 w.0) (map entry_of (drop from (records_of run.now))) }
 {
-    for i in 0..run.len() / 32 {
+    for i in from..run.len() / 32 {
         if is_pair_at(run, i, v, w) {
             return true;
         }
     }
     false
+}
+
+// A pair of the run lets parent value v have child value w: by four, and then those that are left.
+pub fn has_pair(run: &[u8], v: Value, w: Value) -> bool
+    ensures { result ≡ any (is_pair v.0 w.0) (map entry_of (records_of run.now)) }
+{
+    let blocks = run.len() / 32 / 4;
+    for block in 0..blocks {
+        let i = block * 4;
+        if is_pair_at(run, i, v, w)
+            | is_pair_at(run, i + 1, v, w)
+            | is_pair_at(run, i + 2, v, w)
+            | is_pair_at(run, i + 3, v, w)
+        {
+            return true;
+        }
+    }
+    has_pair_from(run, blocks * 4, v, w)
 }
 
 // The parent's value is no key, or the child's is paired with it.

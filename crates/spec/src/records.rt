@@ -1,7 +1,7 @@
 // Records, read where they lie in the caller's bytes.
 #![tactic(auto, using(crate::proofs::Fields::parts))]
 
-ghost use Rattle.std.specs.Prelude.{◌≡◌, ◌/◌, ◌<◌, length};
+ghost use Rattle.std.specs.Prelude.{◌≡◌, ◌/◌, ◌<◌, eqb, length};
 ghost use Rattle.spec.specs.Record.{record_at};
 ghost use Rattle.spec.specs.Code.{as_kind, as_record, kind_number, lead_of, InBytes};
 
@@ -27,6 +27,14 @@ pub fn kind_at(file: &[u8], i: usize) -> Kind
     ensures number { kind_number result ≡ (record_at file.now i).code }
 {
     Kind::from(file[i * 32])
+}
+
+// Record i is a pair: by its number, since a long run is gone through by this, and the match over all kinds takes longer.
+pub fn is_pair(file: &[u8], i: usize) -> bool
+    requires { i < length file.now / 32 }
+    ensures { result ≡ eqb (record_at file.now i).code 4 }
+{
+    file[i * 32] == 4
 }
 
 pub fn a_at(file: &[u8], i: usize) -> usize
