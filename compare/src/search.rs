@@ -355,54 +355,44 @@ fn two_maps(m: &mut Maker) {
     }
 }
 
-/// A file of few short fields and lists of many members, of which few are distinct.
-fn repeats(m: &mut Maker) {
-    let mut rows = m.up_to(200);
-    for _ in 0..2 {
-        let length = m.up_to(rows);
-        rows /= length;
-        m.field(length);
+/// A member for the list of a head; of a map, a key with this chance.
+fn member(m: &mut Maker, head: u8, keys: usize) -> Record {
+    let (f, v, w) = (m.random.below(2) as u8, m.value(0), m.value(1));
+    match head {
+        ONEOF => record(ITEM, 0, 0, v, 0, 0),
+        ENABLE_MASK => record(DISABLE, f, 0, 0, 0, 0),
+        ENABLE_SET => record(ASSIGN, f, 0, w, 0, 0),
+        _ if m.random.chance(keys) => record(KEY, 0, 0, v, 0, 0),
+        _ => record(PAIR, 0, 0, v, w, 0),
     }
-    for _ in 0..1 + m.random.below(2) {
-        let many = m.up_to(m.room() / 2);
+}
+
+/// A file of few rows and of one or two lists that say the same many times.
+fn repeats(m: &mut Maker) {
+    let rows = m.up_to(200);
+    let length = m.up_to(rows);
+    m.field(length);
+    m.field(rows / length);
+    let lists = 1 + m.random.below(2);
+    for _ in 0..lists {
+        let many = m.up_to(1_700 / lists);
         let distinct = m.up_to(many);
-        let (kind, member) = REPEATED[m.random.below(REPEATED.len())];
         let v = m.value(0);
-        m.put(kind, 0, 1, v, 0);
-        if kind != CROSS {
-            m.records.last_mut().expect("a head").b = 0;
+        let head = [ONEOF, CROSS, ENABLE_MASK, ENABLE_SET][m.random.below(4)];
+        match head {
+            ONEOF => m.put(head, 0, 0, 0, 0),
+            CROSS => m.put(head, 0, 1, 0, 0),
+            _ => m.put(head, 0, 0, v, 0),
         }
-        if kind == ONEOF {
-            m.records.last_mut().expect("a head").p = 0;
-        }
-        let members: Vec<Record> = (0..distinct)
-            .map(|_| {
-                let (f, v, w) = (m.random.below(2) as u8, m.value(0), m.value(1));
-                match member {
-                    DISABLE => record(DISABLE, f, 0, 0, 0, 0),
-                    ASSIGN => record(ASSIGN, f, 0, v, 0, 0),
-                    ITEM => record(ITEM, 0, 0, v, 0, 0),
-                    KEY => record(KEY, 0, 0, v, 0, 0),
-                    _ => record(PAIR, 0, 0, v, w, 0),
-                }
-            })
-            .collect();
+        let keys = [0, 50, 100][m.random.below(3)];
+        let members: Vec<Record> = (0..distinct).map(|_| member(m, head, keys)).collect();
         for _ in 0..many {
             let k = m.random.below(distinct);
             m.records.push(members[k]);
         }
-        m.what += &format!("{many} of kind {member}, {distinct} distinct; ");
+        m.what += &format!("kind {head}, {many} members, {distinct} distinct; ");
     }
 }
-
-/// Lists of which a member may stand many times.
-const REPEATED: [(u8, u8); 5] = [
-    (ONEOF, ITEM),
-    (CROSS, PAIR),
-    (CROSS, KEY),
-    (ENABLE_MASK, DISABLE),
-    (ENABLE_SET, ASSIGN),
-];
 
 type Make = fn(&mut Maker);
 

@@ -1,21 +1,23 @@
 -- Lists filled from the front, and filtered in place.
-use mathlib.Core.Bool.{Bool, ◌&&◌, cond, false, true}
+use mathlib.Core.Bool.{Bool, ◌&&◌, ◌||◌, cond, false, true}
 use mathlib.Core.List.{List, [], ◌++◌, ◌∷◌, append_assoc, append-nil, foldl, map}
 use mathlib.Core.Option.{some}
 use mathlib.Core.Path.{◌∙◌, ◌≡◌, ap, ap₂, refl, subst, sym}
-use Prim.Native.Nat.{◌+◌, ◌-◌, ◌<◌, ◌≤◌, suc, ℕ}
+use Prim.Native.Nat.{◌+◌, ◌-◌, ◌/◌, ◌<◌, ◌≤◌, suc, zero, ℕ}
 use native.Mathlib.Numerals.{add-one}
 use native.Mathlib.Omega.{arith}
 use lib.Dec.{eqb}
 use lib.IntN.{nat_abs, pos, ℤ}
 use lib.ListN.{drop, drop_of_length-le, get_or, length, length-append, length-set, set, take, take-append-drop}
 use lib.Seq.{append_snoc, drop-cons, drop-drop, drop-length, drop-set-lt, get_or-drop, length-take-le, take_at, take-suc-set}
-use Rattle.lists.specs.Integers.{elem_z}
-use Rattle.lists.proofs.Tests.{and-join, eqb_yes}
+use Rattle.lists.specs.Integers.{elem_z, eq_z}
+use Rattle.lists.proofs.Lists.{any-map}
+use Rattle.lists.proofs.Tests.{and-join, eqb_yes, or_false, or_same}
 use Rattle.lists.specs.Lists.{filter, or_else, over}
 use Rattle.spec.specs.Code.{as_record, ps_of}
 use Rattle.spec.specs.Kind.{ConstraintKind, Kind, bitmask, constraint, cross, enable_mask, enable_set, eq, even, field, ge, gt, le, lt, member, neq, oneof, projector, range, unknown}
 use Rattle.spec.specs.Record.{Record, constraint_by, constraint_in, constraint_of, group, record_at, records_of}
+use Rattle.spec.proofs.Axis.{any_end, any_from, any_step}
 use Rattle.spec.specs.Spec.{Bitmask, Even, Ge, Gt, Le, Lt, Oneof, Range, Test}
 use Rattle.spec.specs.declared.records.Record as code
 use Rattle.registry.specs.Code.{group_in, test_by, test_in}
@@ -25,6 +27,19 @@ use Rattle.compose.specs.Code.{kept_by, narrows_kind, narrows_test}
 -- A value is among the items of a oneof, the members given.
 abbrev pub is_item : List ℕ → ℤ → Bool
 is_item run v = elem_z v (ps_of (records_of run))
+
+-- One item, or two.
+pub two_items : (run : List ℕ) → 0 < length run / 32 → length run / 32 ≤ 2 → (v : ℤ) → is_item run v ≡ (eq_z v (record_at run 0).p || eq_z v (record_at run (length run / 32 - 1)).p)
+two_items run one few v = any-map (eq_z v) (λ (r : Record). r.p) (records_of run) ∙ any_step is_it run 0 1 refl one ∙ go (length run / 32) refl
+  where
+    is_it : Record → Bool
+    is_it r = eq_z v r.p
+
+    go : (n : ℕ) → length run / 32 ≡ n → (is_it (record_at run 0) || any_from is_it run 1) ≡ (is_it (record_at run 0) || is_it (record_at run (n - 1)))
+    go zero e = absurd (omega (arith, e))
+    go (suc zero) e = ap (λ (b : Bool). is_it (record_at run 0) || b) (any_end is_it run 1 (omega (arith, e))) ∙ or_same (is_it (record_at run 0))
+    go (suc (suc zero)) e = ap (λ (b : Bool). is_it (record_at run 0) || b) (any_step is_it run 1 2 refl (omega (arith, e)) ∙ ap (λ (b : Bool). is_it (record_at run 1) || b) (any_end is_it run 2 (omega (arith, e))) ∙ or_false (is_it (record_at run 1)))
+    go (suc (suc (suc n))) e = absurd (omega (arith, e))
 
 -- ---- the values from i on
 module _ (l : List ℤ) (i : ℕ) where

@@ -1,7 +1,7 @@
 // The lists of the fields, laid into the lent scratch: each domain, narrowed.
-ghost use Rattle.std.specs.Prelude.{◌≡◌, Bool, ℤ, List, true, false, ◌+◌, ◌/◌, ◌≤◌, ◌<◌, suc, pos, get_or, length, take, drop, replicate, MatchOption};
+ghost use Rattle.std.specs.Prelude.{◌≡◌, Bool, ◌||◌, ℤ, List, true, false, ◌+◌, ◌/◌, ◌≤◌, ◌<◌, suc, pos, get_or, length, take, drop, replicate, MatchOption};
 ghost use mathlib.Core.List.{foldl, map};
-ghost use Rattle.lists.specs.Integers.{elem_z};
+ghost use Rattle.lists.specs.Integers.{elem_z, eq_z};
 ghost use Rattle.lists.specs.Lists.{concat_map, filter, sum_n, over};
 ghost use Rattle.spec.specs.Code.{ps_of};
 ghost use Rattle.spec.specs.Domain.{domain};
@@ -21,7 +21,7 @@ use registry::sorting::IndexedRun;
 use spec::domains::{has_p, part};
 use spec::kinds::Kind;
 use spec::numbers::Value;
-use spec::records::record_at;
+use spec::records::{p_at, record_at};
 
 // Moves the values that pass the test to the front; how many they are.
 fn compact<F: Fn(Value) -> bool>(list: &mut [i64], passes: F) -> usize
@@ -166,19 +166,42 @@ fn narrow_from(rules: Rules, first: usize, f: usize, list: &mut [i64]) -> usize
     len
 }
 
-// Lays the domain of field f narrowed by constraint k, one of its own; how many values are left. Where that is a range or a bitmask, only the values that meet it are laid: to lay all first takes as long again.
+// A value is one of two numbers.
+fn is_either(v: Value, one: i64, other: i64) -> bool
+    ensures { result ≡ (eq_z v.0 one || eq_z v.0 other) }
+{
+    (v.0 == one) | (v.0 == other)
+}
+
+// Lays the values of the domain that are among one or two items over the list; how many they are.
+fn lay_among(domain: Domain, run: &[u8], list: &mut [i64]) -> usize
+    requires items { (0 < length run.now / 32) × (length run.now / 32 ≤ 2) }
+    requires room { length list.old ≡ length (domain_of domain) }
+    ensures count { result ≡ length (filter (λ v. elem_z v (ps_of (records_of run.now))) (domain_of domain.entry)) }
+    ensures left { list.new ≡ over (filter (λ v. elem_z v (ps_of (records_of run.now))) (domain_of domain.entry)) list.old }
+{
+    let one = p_at(run, 0);
+    let other = p_at(run, run.len() / 32 - 1);
+    domain.lay_passing(list, move |v| is_either(v, one, other))
+}
+
+// Lays the domain of field f narrowed by constraint k, one of its own; how many values are left. Where that is a range, a bitmask or one or two items, only the values that meet it are laid: to lay all first takes as long again.
 fn lay_narrowed(rules: Rules, k: usize, f: usize, domain: Domain, list: &mut [i64]) -> usize
     requires constraint { (suc k < length rules.heads.now) × ((record_at rules.file.now (get_or rules.heads.now k 0)).a ≡ f) }
     requires room { length list.old ≡ length (domain_of domain) }
     ensures count { result ≡ length (foldl (narrow_by f) (domain_of domain.entry) (constraint_at rules.entry.file.now rules.entry.heads.now k)) }
     ensures front { take result list.new ≡ foldl (narrow_by f) (domain_of domain.entry) (constraint_at rules.entry.file.now rules.entry.heads.now k) }
 {
-    let c = record_at(rules.file, rules.heads[k]);
+    let head = rules.heads[k];
+    let c = record_at(rules.file, head);
     let (kind, p, q) = (c.kind, c.p, c.q);
+    let run = part(rules.file, head + 1, rules.heads[k + 1]);
+    let items = run.len() / 32;
     // Two arms that are alike, as in `narrow_by`. They own p and q: lent, these would be read again at each value.
     let kept = match kind {
         Kind::Range => domain.lay_passing(list, move |v| meets(Kind::Range, p, q, &[], v)),
         Kind::Bitmask => domain.lay_passing(list, move |v| meets(Kind::Bitmask, p, q, &[], v)),
+        Kind::Oneof if (items == 1) | (items == 2) => lay_among(domain, run, list),
         _ => {
             domain.lay(list);
             return narrow_by(rules, k, f, list);

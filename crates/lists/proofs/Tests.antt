@@ -69,6 +69,10 @@ pub or_false : (a : Bool) → (a || false) ≡ a
 or_false true = refl
 or_false false = refl
 
+pub or_same : (a : Bool) → (a || false) ≡ (a || a)
+or_same true = refl
+or_same false = refl
+
 pub or_assoc : (a b c : Bool) → (a || (b || c)) ≡ (a || b || c)
 or_assoc true b c = refl
 or_assoc false b c = refl

@@ -32,7 +32,7 @@ module _ (p : Record → Bool) (file : List ℕ) where
   any_end i h = let e : length (records_of file) ≤ i = omega (arith, length_records file) in rw (drop_of_length-le (records_of file) e)
 
   -- So is it one record on, and four.
-  any_step : (i k : ℕ) → i + 1 ≡ k → i < length file / 32 → any_from i ≡ (p (record_at file i) || any_from k)
+  pub any_step : (i k : ℕ) → i + 1 ≡ k → i < length file / 32 → any_from i ≡ (p (record_at file i) || any_from k)
   any_step i k e h = ap (any p) (records_from file i h) ∙ ap (λ (j : ℕ). p (record_at file i) || any_from j) (sym (add-one i) ∙ e)
 
   pub any_four : (i : ℕ) → i + 4 ≤ length file / 32

@@ -1,16 +1,16 @@
 -- `compose::filters::lay_narrowed` meets its contract.
-use Rattle.std.proofs.Common.{◌∙◌, ◌≡◌, ap, sym, refl, rules, [], List, ℤ, ◌+◌, ◌-◌, suc, drop, get_or, length, take}
+use Rattle.std.proofs.Common.{◌∙◌, ◌≡◌, add-one, ap, sym, refl, rules, [], List, ℤ, ◌+◌, ◌-◌, suc, drop, get_or, length, take}
 use mathlib.Core.List.{foldl}
 use lib.Seq.{take-length}
 use Rattle.spec.specs.Code.{as_kind}
-use Rattle.spec.specs.Kind.{bitmask, constraint, range}
+use Rattle.spec.specs.Kind.{bitmask, constraint, oneof, range}
 use Rattle.spec.specs.Record.{Record, records_of}
 use Rattle.registry.specs.Code.{passes, test_in}
 use Rattle.compose.specs.Code.{constraint_at}
 use Rattle.compose.specs.Known.{domain_of}
 use Rattle.compose.specs.Maps.{narrow_by}
-use Rattle.compose.proofs.Narrowing.{Met, met-none, met-some, narrowed_as}
-use Rattle.compose.proofs.filters.lay_narrowed.Goals.{Joined-kind, in-Bitmask, in-Range}
+use Rattle.compose.proofs.Narrowing.{Met, is_item, met-none, met-some, narrowed_as}
+use Rattle.compose.proofs.filters.lay_narrowed.Goals.{Joined-kind, in-Bitmask, in-Oneof, in-Range}
 use Rattle.compose.proofs.filters.lay_narrowed.Goals as goal
 
 met : (c : Joined-kind) → Met (domain_of c.args.domain) c.args.list.now c.match-kind.list c.match-kind.kept (foldl (narrow_by c.args.f) (domain_of c.args.domain) (constraint_at c.args.rules.file.now c.args.rules.heads.now c.args.k))
@@ -34,6 +34,12 @@ met c =
         count = u.kept-is ∙ u.lay_passing-kept-in-Bitmask.ensures.count p (λ x b f e. search rules);
         front = u.list-is ∙ u.lay_passing-kept-in-Bitmask.ensures.left p (λ x b f e. search rules);
         is = narrowed_as h file head end c.args.f src (constraint bitmask) its c.record_at-c.ensures.read (ap as_kind u.in-Bitmask.is) refl own refl;
+      }
+      | in-Oneof u ↦ record {
+        p = is_item c.part-run.result.now;
+        count = u.kept-is ∙ u.lay_among-kept.ensures.count;
+        front = u.list-is ∙ u.lay_among-kept.ensures.left;
+        is = narrowed_as h file head end c.args.f src (constraint oneof) (records_of c.part-run.result.now) c.record_at-c.ensures.read (ap as_kind u.in-Oneof.is) refl own (rw (add-one head) at c.part-run.ensures.records);
       }
     ]
 
