@@ -12,6 +12,8 @@ use std::time::Instant;
 const ROWS: usize = 1_000_000;
 /// No engine is tried on more verdicts than this: they are what such a call spends its time on, and the table times them.
 const VERDICTS: usize = 100_000;
+/// So often is a file timed again on which the original seems faster.
+const ROUNDS: usize = 8;
 /// What a file may have left for members.
 const RECORDS: usize = 2_000;
 
@@ -464,7 +466,8 @@ pub fn search(seconds: f64, seed: u64) {
             if counts[1] > VERDICTS {
                 continue;
             }
-            let mut compared = |times: usize| {
+            // The shortest of so many calls of each: ours, and the original's with its specification ready, with its reading, and with judging too.
+            let mut time = |times: usize| {
                 let ours = shortest(times, || {
                     count_once(engine, &bytes, &mut scratch);
                 });
@@ -481,13 +484,23 @@ pub fn search(seconds: f64, seed: u64) {
                     let spec = oracle::specification(&rules);
                     original_once(engine, &spec, &constraints, &projectors);
                 });
-                ([theirs / ours, reading / ours, judging / ours], ours)
+                [ours, theirs, reading, judging]
             };
             tried[kind] += 1;
-            if compared(1).0[0] >= 2.0 {
+            let once = time(1);
+            if once[1] >= 2.0 * once[0] {
                 continue;
             }
-            let (ratios, ours) = compared(9);
+            let mut best = time(9);
+            // Again where the original seems faster: the machine is not always as fast.
+            if best[1] < best[0] {
+                for _ in 0..ROUNDS {
+                    let more = time(9);
+                    best = std::array::from_fn(|k| best[k].min(more[k]));
+                }
+            }
+            let ours = best[0];
+            let ratios = [best[1] / ours, best[2] / ours, best[3] / ours];
             for (side, ratio) in ratios.into_iter().enumerate() {
                 lowest[kind][side] = lowest[kind][side].min(ratio);
                 slower[kind][side] += usize::from(ratio < 1.0);
