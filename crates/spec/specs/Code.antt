@@ -243,14 +243,6 @@ pub record IsPlain (list : members.Members) (m : Record) : Type 0 where
   pub p_in : on_scale m.p ≡ true
   pub r_is : m.r ≡ pos 0
 
--- The numbers of fields fit a byte.
-abbrev pub Fits : members.Members → Type 0
-Fits (members'.Values f) = f < 256
-Fits members'.Items = Unit {0}
-Fits members'.Entries = Unit {0}
-Fits (members'.Disables n) = n ≤ 256
-Fits (members'.Assigns n) = n ≤ 256
-
 -- What a turn leaves.
 abbrev pub after_turn : List ℕ → ℕ → Result scan.State code⁵.Refusal → Option Refused
 after_turn file i (Ok st) = left_at file st (i + 1)

@@ -2,18 +2,18 @@
 ghost use Rattle.std.specs.Prelude.{◌≡◌, true, ℕ, pos, ◌+◌, ◌/◌, ◌%◌, ◌≤◌, ◌<◌, length};
 ghost use Rattle.spec.specs.Record.{record_at};
 ghost use Rattle.spec.specs.Refusal.{on_scale};
-ghost use Rattle.spec.specs.Code.{Fits, InList, IsPlain};
+ghost use Rattle.spec.specs.Code.{InList, IsPlain};
 
 use crate::records::{lead_at, p_at, q_at, r_at};
 
 // The list of an open head: a value's field, and how many fields a member may name.
 #[derive(Clone, Copy)]
 pub enum Members {
-    Values(usize),
+    Values(u8),
     Items,
     Entries,
-    Disables(usize),
-    Assigns(usize),
+    Disables(u8),
+    Assigns(u8),
 }
 
 // The first eight bytes of an item, a pair and a key, as one number; and of the members that name a field, but for it. Not kinds: kind, a, b and padding are tested at once.
@@ -44,7 +44,7 @@ fn off_scale(x: i64) -> u64
 }
 
 // 0 only where the first eight bytes are of this kind, name one of n fields, and have nothing else.
-fn off_fields(lead: u64, kind: u64, n: usize) -> u64
+fn off_fields(lead: u64, kind: u64, n: u8) -> u64
     ensures { result ≡ 0 → (lead % 0x100 ≡ kind) × (lead / 0x100 < n) }
 {
     (lead % 0x100 ^ kind) | u64::from(n as u64 <= lead / 0x100)
@@ -53,7 +53,7 @@ fn off_fields(lead: u64, kind: u64, n: usize) -> u64
 // 0 only where record i is of the list, and all but its p and r is as it has to be.
 #[inline(always)]
 fn off_list(file: &[u8], i: usize, list: Members) -> u64
-    requires { (i < length file.now / 32) × Fits list }
+    requires { i < length file.now / 32 }
     ensures { result ≡ 0 → InList list (record_at file.now i) }
 {
     let lead = lead_at(file, i);
@@ -77,7 +77,7 @@ fn off_list(file: &[u8], i: usize, list: Members) -> u64
 // 0 only where record i is of the list and has no fault. Bits, and no Bool, so that those of several records are tested at once.
 #[inline(always)]
 fn flaws(file: &[u8], i: usize, list: Members) -> u64
-    requires { (i < length file.now / 32) × Fits list }
+    requires { i < length file.now / 32 }
     ensures { result ≡ 0 → IsPlain list (record_at file.now i) }
 {
     off_list(file, i, list) | off_zero(r_at(file, i)) | off_scale(p_at(file, i))
@@ -86,7 +86,7 @@ fn flaws(file: &[u8], i: usize, list: Members) -> u64
 // The same of the four records from i on.
 #[inline(always)]
 fn flaws_of_four(file: &[u8], i: usize, list: Members) -> u64
-    requires { (i + 4 ≤ length file.now / 32) × Fits list }
+    requires { i + 4 ≤ length file.now / 32 }
     ensures { result ≡ 0 → (j : ℕ) → i ≤ j → j < i + 4 → IsPlain list (record_at file.now j) }
 {
     flaws(file, i, list)
@@ -98,7 +98,7 @@ fn flaws_of_four(file: &[u8], i: usize, list: Members) -> u64
 // After the members from record i on that have no flaw, one by one.
 #[inline(always)]
 fn end_by_one(file: &[u8], i: usize, list: Members) -> usize
-    requires { (i ≤ length file.now / 32) × Fits list }
+    requires { i ≤ length file.now / 32 }
     ensures { (i ≤ result) × (result ≤ length file.now / 32) × ((j : ℕ) → i ≤ j → j < result → IsPlain list (record_at file.now j)) }
 {
     let n = file.len() / 32;
@@ -114,7 +114,7 @@ fn end_by_one(file: &[u8], i: usize, list: Members) -> usize
 // This and what it calls are in line, so that the loop of each caller has the test of its own list.
 #[inline(always)]
 pub(crate) fn plain_end(file: &[u8], i: usize, list: Members) -> usize
-    requires { (i ≤ length file.now / 32) × Fits list }
+    requires { i ≤ length file.now / 32 }
     ensures { (i ≤ result) × (result ≤ length file.now / 32) × ((j : ℕ) → i ≤ j → j < result → IsPlain list (record_at file.now j)) }
 {
     let blocks = (file.len() / 32 - i) / 8;

@@ -107,9 +107,10 @@ fn pass_plain(file: &[u8], state: State, i: usize) -> usize
     ensures members { (j : ℕ) → i ≤ j → j < result → is_member (record_at file.now j).kind ≡ true }
 {
     let head = record_at(file, state.head);
-    let fields = state.context.fields;
+    // Both fit a byte.
+    let (field, fields) = (head.a as u8, state.context.fields as u8);
     match row_of(head.kind, head.b).list {
-        List::Values => plain_end(file, i, Members::Values(head.a)),
+        List::Values => plain_end(file, i, Members::Values(field)),
         List::Items => plain_end(file, i, Members::Items),
         List::Entries => plain_end(file, i, Members::Entries),
         List::Disables => plain_end(file, i, Members::Disables(fields)),
