@@ -15,8 +15,8 @@ use Rattle.spec.specs.Code.{InBytes, InList, IsPlain, Leads, lead_of, left_at}
 use Rattle.spec.specs.Kind.{Kind, assign, disable, is_member, item, key, kind_of, member, pair, row_of, value}
 use Rattle.spec.specs.Record.{Record, record_at, records_of}
 use Rattle.spec.specs.Refusal.{first_true, member_tests, on_scale, refuse}
-use Rattle.spec.specs.declared.plain.Members.{Members}
-use Rattle.spec.specs.declared.plain.Members.TheVariants as TheVariants
+use Rattle.spec.specs.declared.plain.PlainList.{PlainList}
+use Rattle.spec.specs.declared.plain.PlainList.TheVariants as plain
 use Rattle.spec.specs.declared.scan.State.{State}
 use Rattle.spec.proofs.Fields.{kind_of_lem}
 use Rattle.spec.proofs.Turns.{at_member}
@@ -54,12 +54,12 @@ abbrev Passes : Record → ℕ → Record → Kind → Type 0
 Passes h n m k = (is_member k ≡ true) × ((is_member k && eqb (row_of h.kind h.b).list (row_of k m.b).list) ≡ true) × ((before : List Record) → first_true 2 (member_tests k n h before m) ≡ 0)
 
 -- Head h takes such members.
-abbrev Takes : Members → ℕ → Record → Type 0
-Takes (TheVariants.Values f) n h = ((row_of h.kind h.b).list ≡ 1) × (h.a ≡ f)
-Takes TheVariants.Items n h = (row_of h.kind h.b).list ≡ 18
-Takes TheVariants.Entries n h = (row_of h.kind h.b).list ≡ 19
-Takes (TheVariants.Disables k) n h = ((row_of h.kind h.b).list ≡ 20) × (k ≡ n)
-Takes (TheVariants.Assigns k) n h = ((row_of h.kind h.b).list ≡ 22) × (k ≡ n)
+abbrev Takes : PlainList → ℕ → Record → Type 0
+Takes (plain.Values f) n h = ((row_of h.kind h.b).list ≡ 1) × (h.a ≡ f)
+Takes plain.Items n h = (row_of h.kind h.b).list ≡ 18
+Takes plain.Entries n h = (row_of h.kind h.b).list ≡ 19
+Takes (plain.Disables k) n h = ((row_of h.kind h.b).list ≡ 20) × (k ≡ n)
+Takes (plain.Assigns k) n h = ((row_of h.kind h.b).list ≡ 22) × (k ≡ n)
 
 module _ (h : Record) (n : ℕ) (m : Record) (read : m.kind ≡ kind_of m.code) where
   named : (k : Kind) → m.kind ≡ k → Passes h n m k → Passes h n m m.kind
@@ -90,23 +90,23 @@ module _ (h : Record) (n : ℕ) (m : Record) (read : m.kind ≡ kind_of m.code) 
   unfolding kind_of
   assign_passes e l a q p r = named (member assign) (read ∙ ap kind_of l.code_is) (refl, eqb_yes _ _ e, λ before. rw (leb_no n m.a a, l.b_is, l.padding_is, q, p, r) refl)
 
-  entry_passes : (row_of h.kind h.b).list ≡ 19 → on_scale m.p ≡ true → m.r ≡ pos 0 → InList TheVariants.Entries m → Passes h n m m.kind
+  entry_passes : (row_of h.kind h.b).list ≡ 19 → on_scale m.p ≡ true → m.r ≡ pos 0 → InList plain.Entries m → Passes h n m m.kind
   entry_passes e p r (inl t) = pair_passes e t.0 t.1 p r
   entry_passes e p r (inr t) = key_passes e t.0 t.1 p r
 
-  passes : (list : Members) → Takes list n h → IsPlain list m → Passes h n m m.kind
-  passes (TheVariants.Values f) t plain = value_passes t.0 (subst (λ (a : ℕ). Leads 2 a m) (sym t.1) plain.in_list.0) plain.in_list.1 plain.p_in plain.r_is
-  passes TheVariants.Items t plain = item_passes t plain.in_list.0 plain.in_list.1 plain.p_in plain.r_is
-  passes TheVariants.Entries t plain = entry_passes t plain.p_in plain.r_is plain.in_list
-  passes (TheVariants.Disables k) t plain =
-      let i = plain.in_list in
-      disable_passes t.0 i.0 (subst (λ (x : ℕ). m.a < x) t.1 i.1) i.2 i.3 plain.r_is
-  passes (TheVariants.Assigns k) t plain =
-      let i = plain.in_list in
-      assign_passes t.0 i.0 (subst (λ (x : ℕ). m.a < x) t.1 i.1) i.2 plain.p_in plain.r_is
+  passes : (list : PlainList) → Takes list n h → IsPlain list m → Passes h n m m.kind
+  passes (plain.Values f) t said = value_passes t.0 (subst (λ (a : ℕ). Leads 2 a m) (sym t.1) said.in_list.0) said.in_list.1 said.p_in said.r_is
+  passes plain.Items t said = item_passes t said.in_list.0 said.in_list.1 said.p_in said.r_is
+  passes plain.Entries t said = entry_passes t said.p_in said.r_is said.in_list
+  passes (plain.Disables k) t said =
+      let i = said.in_list in
+      disable_passes t.0 i.0 (subst (λ (x : ℕ). m.a < x) t.1 i.1) i.2 i.3 said.r_is
+  passes (plain.Assigns k) t said =
+      let i = said.in_list in
+      assign_passes t.0 i.0 (subst (λ (x : ℕ). m.a < x) t.1 i.1) i.2 said.p_in said.r_is
 
 -- A plain member leaves what there was to judge.
-module _ (file : List ℕ) (st : State) (list : Members) (takes : Takes list st.context.fields (record_at file st.head)) where
+module _ (file : List ℕ) (st : State) (list : PlainList) (takes : Takes list st.context.fields (record_at file st.head)) where
   abbrev Plainly : ℕ → Type 0
   Plainly i = IsPlain list (record_at file i)
 

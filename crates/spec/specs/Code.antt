@@ -20,8 +20,8 @@ use Rattle.spec.specs.declared.kinds.Section.{Section}
 use Rattle.spec.specs.declared.kinds.Section.TheVariants as sections
 use Rattle.spec.specs.declared.kinds.Use as uses
 use Rattle.spec.specs.declared.kinds.Use.TheVariants as uses'
-use Rattle.spec.specs.declared.plain.Members as members
-use Rattle.spec.specs.declared.plain.Members.TheVariants as members'
+use Rattle.spec.specs.declared.plain.PlainList.{PlainList}
+use Rattle.spec.specs.declared.plain.PlainList.TheVariants as plain
 use Rattle.spec.specs.declared.records.Record as code'
 use Rattle.spec.specs.declared.refusal.Fault.{Fault}
 use Rattle.spec.specs.declared.refusal.Fault.TheVariants as faults
@@ -224,25 +224,29 @@ abbrev pub as_fault : Result (Unit {0}) code⁵.Refusal → Option Refused
 as_fault (Ok x) = none
 as_fault (Err r) = some (as_refused r)
 
--- Members of which a list may have many, without a fault: the first eight bytes are the kind's number, a, and zeros.
+-- ---- members of which a list may have many, without a fault
+-- The first eight bytes are the kind's number, a, and zeros.
 pub record Leads (code a : ℕ) (m : Record) : Type 0 where
   pub code_is : m.code ≡ code
   pub a_is : m.a ≡ a
   pub b_is : m.b ≡ 0
   pub padding_is : m.padding ≡ 0
 
-abbrev pub InList : members.Members → Record → Type 0
-InList (members'.Values f) m = Leads 2 f m × (m.q ≡ pos 0)
-InList members'.Items m = Leads 3 0 m × (m.q ≡ pos 0)
-InList members'.Entries m = (Leads 4 0 m × (on_scale m.q ≡ true)) ⊎ (Leads 5 0 m × (m.q ≡ pos 0))
-InList (members'.Disables n) m = Leads 6 m.a m × (m.a < n) × (m.p ≡ pos 0) × (m.q ≡ pos 0)
-InList (members'.Assigns n) m = Leads 7 m.a m × (m.a < n) × (m.q ≡ pos 0)
+-- They and q are as in the list; a disable has no p. An entry is a pair or a key.
+abbrev pub InList : PlainList → Record → Type 0
+InList (plain.Values f) m = Leads 2 f m × (m.q ≡ pos 0)
+InList plain.Items m = Leads 3 0 m × (m.q ≡ pos 0)
+InList plain.Entries m = (Leads 4 0 m × (on_scale m.q ≡ true)) ⊎ (Leads 5 0 m × (m.q ≡ pos 0))
+InList (plain.Disables n) m = Leads 6 m.a m × (m.a < n) × (m.p ≡ pos 0) × (m.q ≡ pos 0)
+InList (plain.Assigns n) m = Leads 7 m.a m × (m.a < n) × (m.q ≡ pos 0)
 
-pub record IsPlain (list : members.Members) (m : Record) : Type 0 where
+-- So are p and r.
+pub record IsPlain (list : PlainList) (m : Record) : Type 0 where
   pub in_list : InList list m
   pub p_in : on_scale m.p ≡ true
   pub r_is : m.r ≡ pos 0
 
+-- ---- turns
 -- What a turn leaves.
 abbrev pub after_turn : List ℕ → ℕ → Result scan.State code⁵.Refusal → Option Refused
 after_turn file i (Ok st) = left_at file st (i + 1)

@@ -6,9 +6,9 @@ ghost use Rattle.spec.specs.Code.{InList, IsPlain};
 
 use crate::records::{lead_at, p_at, q_at, r_at};
 
-// The list of an open head: a value's field, and how many fields a member may name.
+// The list that such members stand in: a value's field, and how many fields a member may name.
 #[derive(Clone, Copy)]
-pub enum Members {
+pub enum PlainList {
     Values(u8),
     Items,
     Entries,
@@ -52,7 +52,7 @@ fn off_fields(lead: u64, kind: u64, n: u8) -> u64
 
 // 0 only where record i is of the list, and all but its p and r is as it has to be.
 #[inline(always)]
-fn off_list(file: &[u8], i: usize, list: Members) -> u64
+fn off_list(file: &[u8], i: usize, list: PlainList) -> u64
     requires { i < length file.now / 32 }
     ensures { result ≡ 0 → InList list (record_at file.now i) }
 {
@@ -60,23 +60,23 @@ fn off_list(file: &[u8], i: usize, list: Members) -> u64
     let p = p_at(file, i);
     let q = q_at(file, i);
     match list {
-        Members::Values(field) => (lead ^ (VALUE + field as u64 * 0x100)) | off_zero(q),
-        Members::Items => (lead ^ ITEM) | off_zero(q),
-        Members::Entries => {
+        PlainList::Values(field) => (lead ^ (VALUE + field as u64 * 0x100)) | off_zero(q),
+        PlainList::Items => (lead ^ ITEM) | off_zero(q),
+        PlainList::Entries => {
             if lead == PAIR {
                 off_scale(q)
             } else {
                 (lead ^ KEY) | off_zero(q)
             }
         }
-        Members::Disables(n) => off_fields(lead, DISABLE, n) | off_zero(p) | off_zero(q),
-        Members::Assigns(n) => off_fields(lead, ASSIGN, n) | off_zero(q),
+        PlainList::Disables(n) => off_fields(lead, DISABLE, n) | off_zero(p) | off_zero(q),
+        PlainList::Assigns(n) => off_fields(lead, ASSIGN, n) | off_zero(q),
     }
 }
 
 // 0 only where record i is of the list and has no fault. Bits, and no Bool, so that those of several records are tested at once.
 #[inline(always)]
-fn flaws(file: &[u8], i: usize, list: Members) -> u64
+fn flaws(file: &[u8], i: usize, list: PlainList) -> u64
     requires { i < length file.now / 32 }
     ensures { result ≡ 0 → IsPlain list (record_at file.now i) }
 {
@@ -85,7 +85,7 @@ fn flaws(file: &[u8], i: usize, list: Members) -> u64
 
 // The same of the four records from i on.
 #[inline(always)]
-fn flaws_of_four(file: &[u8], i: usize, list: Members) -> u64
+fn flaws_of_four(file: &[u8], i: usize, list: PlainList) -> u64
     requires { i + 4 ≤ length file.now / 32 }
     ensures { result ≡ 0 → (j : ℕ) → i ≤ j → j < i + 4 → IsPlain list (record_at file.now j) }
 {
@@ -97,7 +97,7 @@ fn flaws_of_four(file: &[u8], i: usize, list: Members) -> u64
 
 // After the members from record i on that have no flaw, one by one.
 #[inline(always)]
-fn end_by_one(file: &[u8], i: usize, list: Members) -> usize
+fn end_by_one(file: &[u8], i: usize, list: PlainList) -> usize
     requires { i ≤ length file.now / 32 }
     ensures { (i ≤ result) × (result ≤ length file.now / 32) × ((j : ℕ) → i ≤ j → j < result → IsPlain list (record_at file.now j)) }
 {
@@ -113,7 +113,7 @@ fn end_by_one(file: &[u8], i: usize, list: Members) -> usize
 // The same by eight, and then one by one.
 // This and what it calls are in line, so that the loop of each caller has the test of its own list.
 #[inline(always)]
-pub(crate) fn plain_end(file: &[u8], i: usize, list: Members) -> usize
+pub(crate) fn plain_end(file: &[u8], i: usize, list: PlainList) -> usize
     requires { i ≤ length file.now / 32 }
     ensures { (i ≤ result) × (result ≤ length file.now / 32) × ((j : ℕ) → i ≤ j → j < result → IsPlain list (record_at file.now j)) }
 {

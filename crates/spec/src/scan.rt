@@ -10,7 +10,7 @@ use crate::context::Context;
 use crate::domains::part;
 use crate::faults::{belongs_to, judge_head, judge_list, judge_member, misfiled_fault};
 use crate::kinds::{List, Section, row_of};
-use crate::plain::{Members, plain_end};
+use crate::plain::{PlainList, plain_end};
 use crate::records::{Record, record_at};
 use crate::refusal::{Fault, Refusal, refuse_at};
 use crate::validate::HEADS;
@@ -110,11 +110,11 @@ fn pass_plain(file: &[u8], state: State, i: usize) -> usize
     // Both fit a byte.
     let (field, fields) = (head.a as u8, state.context.fields as u8);
     match row_of(head.kind, head.b).list {
-        List::Values => plain_end(file, i, Members::Values(field)),
-        List::Items => plain_end(file, i, Members::Items),
-        List::Entries => plain_end(file, i, Members::Entries),
-        List::Disables => plain_end(file, i, Members::Disables(fields)),
-        List::Assigns => plain_end(file, i, Members::Assigns(fields)),
+        List::Values => plain_end(file, i, PlainList::Values(field)),
+        List::Items => plain_end(file, i, PlainList::Items),
+        List::Entries => plain_end(file, i, PlainList::Entries),
+        List::Disables => plain_end(file, i, PlainList::Disables(fields)),
+        List::Assigns => plain_end(file, i, PlainList::Assigns(fields)),
         List::Nothing | List::Axes => i,
     }
 }
