@@ -96,10 +96,14 @@ impl Maker {
         if self.random.chance(50) {
             self.random.shuffle(&mut of);
         }
+        let said = [0, 0, 20, 100][self.random.below(4)];
         let mut members = Vec::new();
         for key in of.into_iter().take(keys) {
+            if self.random.chance(said) && members.len() < most {
+                members.push((key, 0, KEY));
+            }
             for _ in 0..each {
-                members.push((key, self.value(child)));
+                members.push((key, self.value(child), PAIR));
             }
         }
         match self.random.below(3) {
@@ -107,10 +111,12 @@ impl Maker {
             1 => members.sort(),
             _ => {}
         }
-        for (p, q) in members {
-            self.put(PAIR, 0, 0, p, q);
+        for (p, q, kind) in members {
+            self.put(kind, 0, 0, p, q);
         }
-        self.what += &format!("map {parent} to {child}, {keys} keys of {each}; ");
+        self.what += &format!(
+            "map {parent} to {child}, {keys} keys of {each}, {said} % of them said; "
+        );
     }
 
     fn oneof(&mut self, f: usize) {
@@ -306,7 +312,7 @@ fn few(m: &mut Maker) {
 
 /// A file of many short fields and many constraints.
 fn many(m: &mut Maker) {
-    let fields = 5 + m.random.below(12);
+    let fields = 5 + m.random.below(28);
     let mut rows = 1;
     for _ in 0..fields {
         let length = 1 + m.random.below(6);
@@ -314,7 +320,7 @@ fn many(m: &mut Maker) {
         rows *= if fits { length } else { 1 };
         m.field(if fits { length } else { 1 });
     }
-    let most = m.up_to(60);
+    let most = m.up_to(200);
     for _ in 0..most {
         m.constraint();
     }
