@@ -1,6 +1,6 @@
 -- Judging record by record, where the records lie in a file: what one turn leaves.
 use Rattle.std.specs.Prelude.{Err, Ok, Result}
-use mathlib.Core.Bool.{Bool, cond, false, true, true≢false}
+use mathlib.Core.Bool.{cond, false, true, true≢false}
 use mathlib.Core.List.{List, [], ◌++◌, ◌∷◌}
 use mathlib.Core.Option.{Option, none, some}
 use mathlib.Core.Path.{◌∙◌, ◌≡◌, ap, ap₂, refl, sym}
@@ -11,7 +11,7 @@ use lib.Dec.{eqb}
 use lib.ListN.{drop, drop_of_length-le, length, take}
 use lib.Seq.{drop-drop}
 use Rattle.lists.specs.Lists.{is_empty}
-use Rattle.spec.specs.Code.{RefusedAt, as_context, as_fault, fault_number, left, left_at, number_of, refusal, section_number}
+use Rattle.spec.specs.Code.{RefusedAt, after_in, as_context, as_fault, fault_number, left, left_at, number_of, refusal, section_number}
 use Rattle.spec.specs.Kind.{Kind, constraint, field, is_member, member, projector, section_of, unknown}
 use Rattle.spec.specs.Record.{Record, record_at, records_of}
 use Rattle.spec.specs.Refusal.{Context, Refused, ◌▷◌, after_head, belongs, context, first_true, head_tests, list_fault, member_tests, misfiled_number, overfull, records_fault, refuse}
@@ -28,14 +28,7 @@ drop_front zero l x rest e = sym (ap (take 1) e)
 drop_front (suc n) [] x rest e = absurd (true≢false (ap is_empty e))
 drop_front (suc n) (y ∷ l) x rest e = ap (λ k. y ∷ k) (drop_front n l x rest e)
 
--- ---- the context after a head, by its section; a member changes nothing
-abbrev pub after_in : (member : Bool) → ℕ → Context → Context
-after_in true section c = c
-after_in false zero c = context (c.fields + 1) c.constraints c.section
-after_in false (suc zero) c = context c.fields (c.constraints + 1) 1
-after_in false (suc (suc zero)) c = context c.fields c.constraints 2
-after_in false (suc (suc (suc section))) c = c
-
+-- ---- the context after a head, by its section
 pub after_class : (k : Kind) (c : Context) → after_head k c ≡ after_in (is_member k) (section_of k) c
 after_class field c = ap (λ (n : ℕ). context n c.constraints c.section) (sym (add-one c.fields))
 after_class unknown c = refl

@@ -1,21 +1,20 @@
 -- The code's tests of a record are those of the definitions.
 use mathlib.Core.Bool.{Bool, ◌&&◌, ◌||◌, false, not, true, true≢false}
 use mathlib.Core.List.{List, [], ◌∷◌}
-use mathlib.Core.Path.{◌≡◌, ap, refl}
+use mathlib.Core.Path.{◌∙◌, ◌≡◌, ap, refl}
 use Prim.Native.Nat.{◌/◌, ◌<◌, suc, zero, ℕ}
 use native.Mathlib.Omega.{arith}
-use lib.Dec.{eqb, ltb}
+use lib.Dec.{ltb}
 use lib.IntN.{negsuc, pos, ℤ}
 use lib.ListN.{length}
 use lib.Signed.{lt_z}
-use Rattle.lists.specs.Integers.{eq_z}
 use Rattle.lists.specs.Lists.{is_empty}
 use Rattle.lists.proofs.Tests.{ltb_no, ltb_yes, or_split}
 use Rattle.spec.specs.declared.kinds.Row as code
-use Rattle.spec.specs.Code.{InScale, as_row, as_use}
-use Rattle.spec.specs.Kind.{Kind, Row, constraint, field, field_row, is_natural, is_unused, member, projector, row_of, unknown}
+use Rattle.spec.specs.Code.{InScale, as_row, blank_in, is_field_kind, stray_code}
+use Rattle.spec.specs.Kind.{Kind, Row, constraint, field, field_row, is_natural, member, projector, row_of, unknown}
 use Rattle.spec.specs.Record.{Record, records_of}
-use Rattle.spec.specs.Refusal.{blank_by, blank_field, negative, off_scale, on_scale, stray_by, stray_byte}
+use Rattle.spec.specs.Refusal.{blank_field, negative, off_scale, on_scale, stray_by, stray_byte}
 use Rattle.spec.proofs.Fields.{length_records}
 
 -- ---- the tests
@@ -23,34 +22,12 @@ pub negative_lt : (x : ℤ) → lt_z x (pos 0) ≡ negative x
 negative_lt (pos n) = ltb_no n 0 (omega arith)
 negative_lt (negsuc n) = refl
 
--- The test for stray numbers by a row as the code has it.
-abbrev pub stray_code : code.Row → Record → Bool
-stray_code w h =
-    not (eqb h.padding 0)
-    || (is_unused (as_use w.a) && not (eqb h.a 0))
-    || (is_unused (as_use w.b) && not (eqb h.b 0))
-    || (is_unused (as_use w.p) && not (eq_z h.p (pos 0)))
-    || (is_unused (as_use w.q) && not (eq_z h.q (pos 0)))
-    || (is_unused (as_use w.r) && not (eq_z h.r (pos 0)))
-
 pub stray_code_lem : (w : code.Row) (h : Record) → stray_code w h ≡ stray_by (as_row w) h
 stray_code_lem w h = refl
 
 -- the same of the row that was looked up for a record
 pub stray_row : (w : code.Row) (k : Kind) (h : Record) → as_row w ≡ row_of k h.b → stray_code w h ≡ stray_byte k h
-stray_row w k h read = ap (λ (v : Row). stray_by v h) read
-
--- A field's domain may be blank, and that of no other kind.
-abbrev pub is_field_kind : Kind → Bool
-is_field_kind field = true
-is_field_kind unknown = false
-is_field_kind (constraint k) = false
-is_field_kind (projector k) = false
-is_field_kind (member k) = false
-
-abbrev pub blank_in : (is-field : Bool) → Record → Bool
-blank_in true h = blank_by h.b h
-blank_in false h = false
+stray_row w k h read = stray_code_lem w h ∙ ap (λ (v : Row). stray_by v h) read
 
 pub blank_class : (k : Kind) (h : Record) → blank_field k h ≡ blank_in (is_field_kind k) h
 blank_class field h = refl

@@ -1,11 +1,12 @@
 -- What the code's types stand for, and what it computes on the way where no definition of the requirement says it.
-use Rattle.std.specs.Prelude.{Bool, cond, true, false, List, ◌++◌, map, ◌≡◌, ℕ, zero, suc, ◌+◌, ◌-◌, ◌*◌, ◌/◌, ◌^◌, ◌≤◌, ◌<◌, eqb, leb, ltb, ℤ, pos, nat_abs, length, take, drop, replicate, Result, Ok, Err, IsErrAnd, MatchResult, ◌⊎◌}
+use Rattle.std.specs.Prelude.{Bool, cond, not, ◌&&◌, ◌||◌, true, false, List, ◌++◌, map, ◌≡◌, ℕ, zero, suc, ◌+◌, ◌-◌, ◌*◌, ◌/◌, ◌^◌, ◌≤◌, ◌<◌, eqb, leb, ltb, ℤ, pos, nat_abs, length, take, drop, replicate, Result, Ok, Err, IsErrAnd, MatchResult, ◌⊎◌}
 use Rattle.std.proofs.Math.Option.{Option, none, some}
+use Rattle.lists.specs.Integers.{eq_z}
 use Rattle.lists.specs.Lists.{any, over}
 use Rattle.spec.specs.Domain.{domain, first_multiple, how_many, step_of}
-use Rattle.spec.specs.Refusal.{Answer, refused, accepted, Context, Refused, ◌▷◌, on_scale, negative, members_fault, groups_fault, file_fault, unless_refused}
+use Rattle.spec.specs.Refusal.{Answer, blank_by, context, refused, accepted, Context, Refused, ◌▷◌, on_scale, negative, members_fault, groups_fault, file_fault, unless_refused}
 use Rattle.spec.specs.Kind as kinds
-use Rattle.spec.specs.Kind.{section_of, Kind, field, unknown, constraint, projector, member, Use, unused, number, natural, own, names, MemberKind, value, item, pair, key, disable, assign, axis, ConstraintKind, range, even, eq, neq, lt, gt, le, ge, oneof, cross, enable_mask, bitmask, enable_set, ProjectorKind, sum, identity, parity, decompose}
+use Rattle.spec.specs.Kind.{is_unused, section_of, Kind, field, unknown, constraint, projector, member, Use, unused, number, natural, own, names, MemberKind, value, item, pair, key, disable, assign, axis, ConstraintKind, range, even, eq, neq, lt, gt, le, ge, oneof, cross, enable_mask, bitmask, enable_set, ProjectorKind, sum, identity, parity, decompose}
 use Rattle.spec.specs.Shape.{Shape}
 use Rattle.spec.specs.Spec.{FieldSpec}
 use Rattle.spec.specs.Record.{Record, record_at, records_of, member_run, groups, heads_from, heads_of}
@@ -168,6 +169,36 @@ abbrev pub high_of : ℕ → ℤ → ℤ
 high_of form q = cond (eqb form 1) q (pos 255)
 
 -- ---- tests
+-- The test for stray numbers by a row as the code has it.
+abbrev pub stray_code : code.Row → Record → Bool
+stray_code w h =
+    not (eqb h.padding 0)
+    || (is_unused (as_use w.a) && not (eqb h.a 0))
+    || (is_unused (as_use w.b) && not (eqb h.b 0))
+    || (is_unused (as_use w.p) && not (eq_z h.p (pos 0)))
+    || (is_unused (as_use w.q) && not (eq_z h.q (pos 0)))
+    || (is_unused (as_use w.r) && not (eq_z h.r (pos 0)))
+
+-- A field's domain may be blank, and that of no other kind.
+abbrev pub is_field_kind : Kind → Bool
+is_field_kind field = true
+is_field_kind unknown = false
+is_field_kind (constraint k) = false
+is_field_kind (projector k) = false
+is_field_kind (member k) = false
+
+abbrev pub blank_in : (is-field : Bool) → Record → Bool
+blank_in true h = blank_by h.b h
+blank_in false h = false
+
+-- The context after a head, by its section; a member changes nothing.
+abbrev pub after_in : (member : Bool) → ℕ → Context → Context
+after_in true section c = c
+after_in false zero c = context (c.fields + 1) c.constraints c.section
+after_in false (suc zero) c = context c.fields (c.constraints + 1) 1
+after_in false (suc (suc zero)) c = context c.fields c.constraints 2
+after_in false (suc (suc (suc section))) c = c
+
 abbrev pub as_context : code'''.Context → Context
 as_context c = record { fields = c.fields; constraints = c.constraints; section = section_number c.section }
 

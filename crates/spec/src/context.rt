@@ -18,9 +18,9 @@ pub struct Context {
 
 impl Context {
     ghost use Rattle.std.specs.Prelude.{◌≡◌, true, false, ◌+◌};
-    ghost use Rattle.spec.specs.Kind.{is_member};
-    ghost use Rattle.spec.specs.Refusal.{after_head, context, overfull};
-    ghost use Rattle.spec.specs.Code.{as_context, as_kind};
+    ghost use Rattle.spec.specs.Kind.{is_member, section_of};
+    ghost use Rattle.spec.specs.Refusal.{context, overfull};
+    ghost use Rattle.spec.specs.Code.{after_in, as_context, as_kind};
 
     // At the first record.
     pub(crate) fn new() -> Context
@@ -52,11 +52,11 @@ impl Context {
         self.fields + self.constraints
     }
 
-    // After the head.
+    // After the head, by its section: the definitions' `after_head` by the law spec/Turns `after_class`.
     pub(crate) fn after(self, head: Kind) -> Context
         requires member { is_member (as_kind head) ≡ false }
         requires room { overfull (as_kind head) (as_context self) ≡ false }
-        ensures { as_context result ≡ after_head (as_kind head) (as_context self) }
+        ensures { as_context result ≡ after_in (is_member (as_kind head)) (section_of (as_kind head)) (as_context self) }
     {
         match head.section() {
             Section::Fields => Context {

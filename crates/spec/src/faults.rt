@@ -3,7 +3,7 @@ ghost use Rattle.std.specs.Prelude.{◌≡◌, true, false};
 ghost use Rattle.spec.specs.Kind.{is_member};
 ghost use Rattle.spec.specs.Record.{records_of};
 ghost use Rattle.spec.specs.Refusal.{off_scale, blank_field, head_tests, member_tests, belongs, list_fault, first_true, misfiled_number};
-ghost use Rattle.spec.specs.Code.{as_record, as_context, as_kind, fault_number, number_of};
+ghost use Rattle.spec.specs.Code.{as_record, as_context, as_kind, blank_in, fault_number, is_field_kind, number_of};
 
 use crate::axes::{bad_axis, bad_offset};
 use crate::context::Context;
@@ -16,12 +16,13 @@ use crate::refusal::Fault;
 // 8: the domain of a field without a list is empty.
 fn blank_field(h: Record) -> bool
     requires { off_scale (as_kind h.kind) (as_record h) ≡ false }
-    ensures { result ≡ blank_field (as_kind h.kind) (as_record h) }
+    ensures { result ≡ blank_in (is_field_kind (as_kind h.kind)) (as_record h) }
 {
     h.kind == Kind::Field && h.b < 2 && domain_len(h, 0) == 0
 }
 
 // A head, after so many fields and constraints: the first of the faults 2 to 8.
+#[tactic(auto, using(crate::proofs::Uses::blank_class))]
 pub(crate) fn judge_head(h: Record, context: Context) -> Result<(), Fault>
     requires { is_member (as_kind h.kind) ≡ false }
     ensures { number_of result ≡ first_true 2 (head_tests (as_kind h.kind) (as_context context) (as_record h)) }

@@ -4,7 +4,7 @@ ghost use Rattle.std.specs.Int.Signed.{lt_z};
 ghost use Rattle.lists.specs.Integers.{eq_z};
 ghost use Rattle.spec.specs.Kind.{row_of};
 ghost use Rattle.spec.specs.Refusal.{no_such_field, not_due, off_scale, on_scale, out_of_order, stray_byte, unknown_kind};
-ghost use Rattle.spec.specs.Code.{as_context, as_kind, as_record, as_row};
+ghost use Rattle.spec.specs.Code.{as_context, as_kind, as_record, as_row, stray_code};
 
 use crate::context::Context;
 use crate::kinds::{Kind, Row, Section, Use, row_of};
@@ -48,7 +48,8 @@ impl Candidate {
 
     // 3: something that the kind does not use is not 0.
     pub(crate) fn has_stray_byte(self) -> bool
-        ensures { result ≡ stray_byte (as_kind self.given.kind) (as_record self.given) }
+        ensures by_row { result ≡ stray_code self.row (as_record self.given) }
+        ensures stray { result ≡ stray_byte (as_kind self.given.kind) (as_record self.given) }
     {
         let given = self.given;
         let row = self.row;

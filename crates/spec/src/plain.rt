@@ -36,11 +36,15 @@ fn off_zero(x: i64) -> u64
     x.cast_unsigned()
 }
 
-// 0 only where x lies on the scale; its upper end is left to the full test.
+// 0 where x lies on the scale, both ends too, and nowhere else.
 fn off_scale(x: i64) -> u64
     ensures { result ≡ 0 → on_scale x ≡ true }
 {
-    x.cast_unsigned().wrapping_add(0x100_0000_0000_0000) >> 57
+    // What is at most 2^57 is, less one, below it: one shift tells both ends.
+    x.cast_unsigned()
+        .wrapping_add(0x100_0000_0000_0000)
+        .saturating_sub(1)
+        >> 57
 }
 
 // 0 only where the first eight bytes are of this kind, name one of n fields, and have nothing else.

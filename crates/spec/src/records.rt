@@ -21,12 +21,20 @@ pub struct Record {
 }
 
 // The parts of record i, counting from 0. Each asks for a record that there is: the bound of the call's own index.
+// The number of its kind, as the file has it.
+pub fn code_at(file: &[u8], i: usize) -> u8
+    requires { i < length file.now / 32 }
+    ensures { result ≡ (record_at file.now i).code }
+{
+    file[i * 32]
+}
+
 pub fn kind_at(file: &[u8], i: usize) -> Kind
     requires { i < length file.now / 32 }
     ensures kind { as_kind result ≡ (record_at file.now i).kind }
     ensures number { kind_number result ≡ (record_at file.now i).code }
 {
-    Kind::from(file[i * 32])
+    Kind::from(code_at(file, i))
 }
 
 // Record i is a pair: by its number, since a long run is gone through by this, and the match over all kinds takes longer.
@@ -34,7 +42,7 @@ pub fn is_pair(file: &[u8], i: usize) -> bool
     requires { i < length file.now / 32 }
     ensures { result ≡ eqb (record_at file.now i).code 4 }
 {
-    file[i * 32] == 4
+    code_at(file, i) == 4
 }
 
 pub fn a_at(file: &[u8], i: usize) -> usize

@@ -6,7 +6,7 @@ use Rattle.std.proofs.lemmas.Result.{err_from_is_err_and, on_ok_weaker}
 use Rattle.lists.specs.Lists.{over}
 use Rattle.spec.specs.Code.{as_record, as_refused}
 use Rattle.spec.specs.Refusal.{Context, after_head, first_true, head_tests, refuse}
-use Rattle.spec.proofs.Turns.{at_first_head, at_first_member, at_none, at_opened, fault_refused, refused_at}
+use Rattle.spec.proofs.Turns.{after_class, at_first_head, at_first_member, at_none, at_opened, fault_refused, refused_at}
 use mathlib.Core.Bool.{false}
 use lib.ListN.{set}
 use Rattle.spec.specs.Code.{as_context, heads_before, noting}
@@ -48,7 +48,7 @@ clear c =
     refused_at _ _ _ c.in_ok-refuse_at.ensures ∙ ap (λ (n : ℕ). refuse n 1) (c.judge_head.ensures ∙ ap (λ (x : Context). first_true 2 (head_tests m.kind x m)) c.new-context.ensures)
 
 after_is : (c : After-after) → as_context c.after.result ≡ after_head (as_record c.record_at-m.result).kind (context 0 0 0)
-after_is c = c.after.ensures ∙ ap (after_head (as_record c.record_at-m.result).kind) c.new-context.ensures
+after_is c = c.after.ensures ∙ sym (after_class (as_record c.record_at-m.result).kind (as_context c.new-context.result)) ∙ ap (after_head (as_record c.record_at-m.result).kind) c.new-context.ensures
 
 -- it is noted
 noted_one : (c : After-after) → noting c.args.file.now (set c.args.heads.now 0 0) (heads_before (as_context c.after.result)) 1 ≡ over (heads_of c.args.file.now) c.args.heads.now
