@@ -21,7 +21,7 @@ use registry::sorting::IndexedRun;
 use spec::domains::{has_p, part};
 use spec::kinds::Kind;
 use spec::numbers::Value;
-use spec::records::{p_at, record_at};
+use spec::records::{a_at, kind_at, p_at, record_at};
 
 // Moves the values that pass the test to the front; how many they are.
 fn compact<F: Fn(Value) -> bool>(list: &mut [i64], passes: F) -> usize
@@ -92,7 +92,12 @@ fn compact_many(list: &mut [i64], run: &[u8]) -> usize
     compact(list, |v| items.finds_p(v))
 }
 
-// Moves the values that are among the items to the front; how many they are. The items are put in order where they are many and the values too, or where very many values ascend.
+// So many items and values that it pays to go from item to item, where the values ascend.
+fn is_worth_items(items: usize, values: usize) -> bool {
+    (512 < values) | ((32 < items) & (64 < values))
+}
+
+// Moves the values that are among the items to the front; how many they are. The items are put in order where they are many and the values too, or where the values ascend and either are.
 fn compact_items(list: &mut [i64], run: &[u8]) -> usize
     ensures count { result ≡ length (filter (λ v. elem_z v (ps_of (records_of run.now))) list.old) }
     ensures left { list.new ≡ over (filter (λ v. elem_z v (ps_of (records_of run.now))) list.old) list.old }
@@ -101,7 +106,7 @@ fn compact_items(list: &mut [i64], run: &[u8]) -> usize
     if (FEW < items) & (items <= INDEXED) & (64 < list.len()) {
         return compact_many(list, run);
     }
-    if (items <= FEW) & (512 < list.len()) && is_ascending(&list[..]) {
+    if (items <= FEW) & is_worth_items(items, list.len()) && is_ascending(&list[..]) {
         return compact_few(list, run);
     }
     compact(list, |v| has_p(run, v))
@@ -138,8 +143,13 @@ fn is_filter(rules: Rules, k: usize, f: usize) -> bool
     ensures field { result ≡ true → (record_at rules.entry.file.now (get_or rules.entry.heads.now k 0)).a ≡ f }
     ensures others { result ≡ false → (list : List ℤ) → foldl (narrow_by f) list (constraint_at rules.entry.file.now rules.entry.heads.now k) ≡ list }
 {
-    let h = record_at(rules.file, rules.heads[k]);
-    (h.a == f) & matches!(h.kind, Kind::Range | Kind::Oneof | Kind::Bitmask)
+    let head = rules.heads[k];
+    // The field first: most constraints are about another, and a file may have 32 fields and 256 constraints.
+    if a_at(rules.file, head) != f {
+        return false;
+    }
+    let kind = kind_at(rules.file, head);
+    matches!(kind, Kind::Range | Kind::Oneof | Kind::Bitmask)
 }
 
 // The first filter of field f: the constraints before it narrow nothing, and all where there is none.
@@ -161,7 +171,9 @@ fn narrow_from(rules: Rules, first: usize, f: usize, list: &mut [i64]) -> usize
 {
     let mut len = list.len();
     for k in first..rules.count() {
-        len = narrow_by(rules, k, f, &mut list[..len]);
+        if is_filter(rules, k, f) {
+            len = narrow_by(rules, k, f, &mut list[..len]);
+        }
     }
     len
 }

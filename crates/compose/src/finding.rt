@@ -1,5 +1,5 @@
 // Looking through a list for a value, and for the next value that passes a test.
-ghost use Rattle.std.specs.Prelude.{◌≡◌, Bool, ℤ, true, false, map, ◌-◌, ◌≤◌, pos, length, get_or, MatchOption};
+ghost use Rattle.std.specs.Prelude.{◌≡◌, Bool, List, ℕ, ℤ, true, false, map, ◌+◌, ◌-◌, ◌<◌, ◌≤◌, pos, length, get_or, take, MatchOption};
 ghost use Rattle.std.specs.Int.Signed.{le_z};
 ghost use Rattle.lists.specs.Integers.{elem_z};
 ghost use Rattle.lists.specs.Lists.{any};
@@ -7,7 +7,7 @@ ghost use Rattle.spec.specs.Code.{ps_of};
 ghost use Rattle.spec.specs.Record.{entry_of, records_of};
 ghost use Rattle.registry.specs.Check.{is_pair};
 ghost use Rattle.compose.specs.Walk.{least};
-ghost use Rattle.compose.specs.Code.{is_ascending, marked, Answers};
+ghost use Rattle.compose.specs.Code.{four_at, is_ascending, marked, Answers};
 
 use registry::sorting::IndexedRun;
 use spec::numbers::{Index, Value};
@@ -37,18 +37,40 @@ pub(crate) fn first_where<F: Fn(Value) -> bool>(list: &[i64], from: Index, passe
     Index(list.len())
 }
 
-// Marks the cells of a list's values that are w.
+// One of the four values from i on is w: they are tested at once.
+fn is_of_four(list: &[i64], i: usize, w: Value) -> bool
+    requires { i + 4 ≤ length list.now }
+    ensures { result ≡ four_at w.0 list.now i }
+{
+    (list[i] == w.0) | (list[i + 1] == w.0) | (list[i + 2] == w.0) | (list[i + 3] == w.0)
+}
+
+// Marks the cells of the values from `from` to before `to` that are w; those before are marked.
+fn mark_between(list: &[i64], from: usize, to: usize, w: Value, row: &mut [u8])
+    requires { (from ≤ to) × (to ≤ length list.now) × (length row.old ≡ length list.now) }
+    ensures { (cells : List ℕ) → row.old ≡ marked w.0 (take from list.now) cells → row.new ≡ marked w.0 (take to list.now) cells }
+{
+    for i in from..to {
+        if list[i] == w.0 {
+            row[i] = 1;
+        }
+    }
+}
+
+// Marks the cells of a list's values that are w: by eight, since few are, and then those that are left. One by one it took half as long again.
 // That the row has a cell for each value is the bound of the call's own index, here and in the other functions that mark.
 pub(crate) fn mark_all(list: &[i64], w: Value, row: &mut [u8])
     requires { length row.old ≡ length list.now }
     ensures { row.new ≡ marked w.0 list.now row.old }
 {
-    // By `enumerate`: tried with `zip`, and the proof did not close.
-    for (i, x) in list.iter().enumerate() {
-        if *x == w.0 {
-            row[i] = 1;
+    let blocks = list.len() / 8;
+    for block in 0..blocks {
+        let i = block * 8;
+        if is_of_four(list, i, w) | is_of_four(list, i + 4, w) {
+            mark_between(list, i, i + 8, w, row);
         }
     }
+    mark_between(list, blocks * 8, list.len(), w, row);
 }
 
 // A list none of whose values is below the one before it.

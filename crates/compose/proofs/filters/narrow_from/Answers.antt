@@ -8,6 +8,7 @@ use Rattle.compose.specs.Maps.{narrow_by}
 use Rattle.compose.specs.Code.{constraints_in}
 use Rattle.compose.proofs.Narrowing.{over_front, over_room}
 use Rattle.compose.proofs.Positions.{fold_end, fold_turn}
+use Rattle.compose.proofs.filters.narrow_from.Goals.{then-is_filter, else-is_filter}
 use Rattle.compose.proofs.filters.narrow_from.Goals as goal
 
 pub loop-k-init : goal.loop-k-init
@@ -22,12 +23,22 @@ loop-k-preserved c =
     let old = take l.len l.list in
     let rest = drop l.len l.list in
     let new = foldl by old (constraint_of (group_in file (get_or heads l.k 0) (get_or heads (l.k + 1) 0))) in
-    let r = c.narrow_by-len.result in
-    let e = c.narrow_by-len.ensures in (
-      subst (λ (z : List ℤ). r ≤ length (z ++ rest)) (sym e.left) (over_room new old rest r e.count),
-      ap (λ (z : List ℤ). foldl by z (constraints_in file (drop (l.k + 1) heads))) (ap (λ (z : List ℤ). take r (z ++ rest)) e.left ∙ over_front new old rest r e.count)
-          ∙ sym (fold_turn by constraint_of file heads l.k old (omega arith)) ∙ l.invariant.1,
-    )
+    elim c.if-is_filter.branch [
+      | then-is_filter u ↦
+          let r = u.narrow_by-len.result in
+          let e = u.narrow_by-len.ensures in
+          rw (u.len-is, u.list-is) (
+            subst (λ (z : List ℤ). r ≤ length (z ++ rest)) (sym e.left) (over_room new old rest r e.count),
+            ap (λ (z : List ℤ). foldl by z (constraints_in file (drop (l.k + 1) heads))) (ap (λ (z : List ℤ). take r (z ++ rest)) e.left ∙ over_front new old rest r e.count)
+                ∙ sym (fold_turn by constraint_of file heads l.k old (omega arith)) ∙ l.invariant.1,
+          )
+      | else-is_filter u ↦
+          rw (u.len-is, u.list-is) (
+            l.invariant.0,
+            ap (λ (z : List ℤ). foldl by z (constraints_in file (drop (l.k + 1) heads))) (sym (c.is_filter.ensures.others u.if-is_filter.false old))
+                ∙ sym (fold_turn by constraint_of file heads l.k old (omega arith)) ∙ l.invariant.1,
+          )
+    ]
 
 pub returns : goal.returns
 returns c =
