@@ -70,7 +70,8 @@ impl<'a> Checks<'a> {
         requires { length row.now ≡ self.now.fields }
         ensures { result ≡ all (holds_at self.now.file.now self.now.heads.now row.now) self.now.chosen.now }
     {
-        self.first_failing(row).is_none()
+        // A row that is asked about none is no call: with one, a count of rows that nothing forbids took twice as long.
+        self.chosen.is_empty() || self.first_failing(row).is_none()
     }
 
     // The place of a row whose field checks pass: it is asked about these constraints. 0 is document 01's place of a row that passed.
