@@ -1,11 +1,13 @@
 // Text put into a lent buffer from `at` on. Each call gives the place after what it put there.
 ghost use Rattle.std.specs.Prelude.{◌≡◌, true, [], ◌∷◌, ◌+◌, ◌≤◌, pos, length, take};
 ghost use Rattle.std.proofs.lemmas.List.Edits.{sets};
-ghost use Rattle.spec.specs.Code.{as_answer, as_refused};
+ghost use Rattle.spec.specs.Code.{as_refused};
+ghost use Rattle.spec.specs.Refusal.{Refused};
 ghost use Rattle.registry.specs.Code.{as_projection};
 ghost use Rattle.lists.specs.Lists.{concat_map};
 ghost use Rattle.lists.specs.Integers.{eq_z};
 ghost use Rattle.classifier.specs.Code.{as_counts};
+ghost use Rattle.listing.specs.Code.{as_answer_by, as_numbered};
 ghost use Rattle.listing.specs.Counts.{IsPrefixLen};
 ghost use Rattle.listing.specs.Text.{signed_decimal, spaced, projection_text, refusal, refused_line, end_line, accepted_line, answer_line};
 ghost use Rattle.listing.specs.Words.{after_if, bytes_for, can_list, has_room, line_of, lines_of, put_if};
@@ -14,6 +16,41 @@ use classifier::count::Counts;
 use itoa::{Buffer, Integer};
 use spec::refusal::Refusal;
 use spec::validate::Shape;
+
+// What is printed of a refusal, of which any number will do.
+#[derive(Clone, Copy)]
+pub struct Numbered {
+    pub number: u8,
+    pub record: usize,
+}
+
+// A refusal that is printed by its numbers. Of std's `Into` a clause would know a relation alone, and not the numbers.
+pub trait IntoNumbered {
+    // The number and the record that are printed.
+    ghost numbers: { Self → Refused };
+
+    fn into_numbered(self) -> Numbered
+        ensures { as_numbered result ≡ numbers self };
+}
+
+impl IntoNumbered for Numbered {
+    ghost numbers = { as_numbered };
+
+    fn into_numbered(self) -> Numbered {
+        self
+    }
+}
+
+impl IntoNumbered for Refusal {
+    ghost numbers = { as_refused };
+
+    fn into_numbered(self) -> Numbered {
+        Numbered {
+            number: self.fault.into(),
+            record: self.record,
+        }
+    }
+}
 
 // Buffer and place are handed from call to call: each call gives the place after it. Of a struct of both every contract would have to say, too, that it holds the same buffer still; and `Display` writes to a writer, which may fail.
 fn put_byte(out: &mut [u8], at: usize, byte: u8) -> usize
@@ -184,21 +221,25 @@ pub fn put_numbered(out: &mut [u8], at: usize, number: u8, record_number: usize)
 }
 
 // The line of a refusal: it takes at most 50 bytes; without room for them nothing is put.
-pub fn put_refusal(out: &mut [u8], at: usize, r: Refusal) -> usize
-    ensures out_after { out.new ≡ put_if (has_room out.old at 50) (refused_line (as_refused r)) at out.old }
-    ensures value { result ≡ after_if (has_room out.old at 50) (refused_line (as_refused r)) at }
+pub fn put_refusal<R: IntoNumbered>(out: &mut [u8], at: usize, r: R) -> usize
+    ensures out_after { out.new ≡ put_if (has_room out.old at 50) (refused_line (R.numbers r)) at out.old }
+    ensures value { result ≡ after_if (has_room out.old at 50) (refused_line (R.numbers r)) at }
 {
-    put_numbered(out, at, r.fault.into(), r.record)
+    let numbered = r.into_numbered();
+    put_numbered(out, at, numbered.number, numbered.record)
 }
 
 // The line for what `validate` answered, at the start of `text`; how many bytes.
-pub fn put_answer(text: &mut [u8; 64], judged: Result<Shape, Refusal>) -> usize
+pub fn put_answer<R: IntoNumbered>(text: &mut [u8; 64], judged: Result<Shape, R>) -> usize
     ensures prefix_len { IsPrefixLen result text.new }
-    ensures text_after { take result text.new ≡ answer_line (as_answer judged) }
-    ensures text_after_2 { text.new ≡ sets text.old 0 (answer_line (as_answer judged)) }
+    ensures text_after { take result text.new ≡ answer_line (as_answer_by R.numbers judged) }
+    ensures text_after_2 { text.new ≡ sets text.old 0 (answer_line (as_answer_by R.numbers judged)) }
 {
     match judged {
         Ok(shape) => put_accepted(text, 0, shape.total as u64),
-        Err(refusal) => put_refused(text, 0, refusal.fault.into(), refusal.record),
+        Err(refusal) => {
+            let numbered = refusal.into_numbered();
+            put_refused(text, 0, numbered.number, numbered.record)
+        }
     }
 }
