@@ -21,7 +21,7 @@ pub struct Record {
 }
 
 // The parts of record i, counting from 0. Each asks for a record that there is: the bound of the call's own index.
-// The number of its kind, as the file has it.
+// The number of its kind as the file has it, and the kind.
 pub fn code_at(file: &[u8], i: usize) -> u8
     requires { i < length file.now / 32 }
     ensures { result ≡ (record_at file.now i).code }
